@@ -1,0 +1,97 @@
+-- The order `le` on floats:
+--   `le-refl`, `le-total`, `le-trans`: it is reflexive and total on finite values, and transitive on all;
+--   `between-finite`, `neg-finite`: what lies between finite values is finite, and so is the negative of one;
+--   `Between`, `between-bounds`: to lie between two values, one way round or the other.
+-- Assumes nothing.
+use mathlib.Core.Logic.{_⊎_, inl, inr}
+use Prim.Native.Nat.{ℕ, _+_, _*_, _≤_, _<_}
+use native.Mathlib.Omega.{arith}
+use mathlib.Core.Bool.{Bool, true, false, not}
+use lib.Dec.{T, T-not, ltb, ltb→lt, nltb→le}
+use lib.Ieee.{Float, nan, inf, fin, up, down, neg, le}
+use lib.Ieee.Fits.{down-pos}
+use lib.Ieee.Scale.{finite}
+use Rattle.rounding.proofs.Signed.{P, N, Le-refl, Le-trans, le→Le, Le→le}
+
+-- a finite value is at most itself
+pub le-refl : (x : Float) → T (finite x) → T (le x x)
+le-refl nan p = absurd p
+le-refl (inf s) p = absurd p
+le-refl (fin s m e) p = Le→le s m e s m e (Le-refl s (m * up e) (down e))
+
+-- `le` is transitive, infinities and NaN included
+pub le-trans : (x y z : Float) → T (le x y) → T (le y z) → T (le x z)
+unfolding le
+le-trans nan nan z h k = absurd h
+le-trans (inf s) nan z h k = absurd h
+le-trans (fin s m e) nan z h k = absurd h
+le-trans nan (inf true) z h k = absurd h
+le-trans (inf false) (inf true) z h k = absurd h
+le-trans (inf true) (inf true) z h k = k
+le-trans (fin s m e) (inf true) z h k = absurd h
+le-trans x (inf false) nan h k = absurd k
+le-trans x (inf false) (inf true) h k = absurd k
+le-trans x (inf false) (inf false) h k = h
+le-trans x (inf false) (fin u o g) h k = absurd k
+le-trans nan (fin t n d) z h k = absurd h
+le-trans (inf false) (fin t n d) z h k = absurd h
+le-trans (inf true) (fin t n d) nan h k = absurd k
+le-trans (inf true) (fin t n d) (inf true) h k = tt
+le-trans (inf true) (fin t n d) (inf false) h k = tt
+le-trans (inf true) (fin t n d) (fin u o g) h k = tt
+le-trans (fin s m e) (fin t n d) nan h k = absurd k
+le-trans (fin s m e) (fin t n d) (inf true) h k = absurd k
+le-trans (fin s m e) (fin t n d) (inf false) h k = tt
+le-trans (fin s m e) (fin t n d) (fin u o g) h k =
+    Le→le s m e u o g
+    (Le-trans s (m * up e) (down e) t (n * up d) (down d) u (o * up g) (down g) (down-pos d) (le→Le s m e t n d h) (le→Le t n d u o g k))
+
+-- of two finite values one is at most the other
+pub le-total : (x y : Float) → T (finite x) → T (finite y) → T (not (le x y)) → T (le y x)
+le-total nan y p q h = absurd p
+le-total (inf s) y p q h = absurd p
+le-total (fin s m e) nan p q h = absurd q
+le-total (fin s m e) (inf t) p q h = absurd q
+le-total (fin s m e) (fin t n d) p q h = go (ltb R L) (ltb→lt R L) (nltb→le R L)
+  where
+    L : ℕ
+    L = P s (m * up e) * down d + N t (n * up d) * down e
+
+    R : ℕ
+    R = P t (n * up d) * down e + N s (m * up e) * down d
+
+    go : (b : Bool) → (T b → R < L) → (T (not b) → L ≤ R) → T (le (fin t n d) (fin s m e))
+    go true k l = let x = k tt in Le→le t n d s m e (omega arith)
+    go false k l = absurd (T-not (le (fin s m e) (fin t n d)) h (Le→le s m e t n d (l tt)))
+
+-- ---- finite values
+
+-- what lies between two finite values is finite
+pub between-finite : (l x h : Float) → T (finite l) → T (finite h) → T (le l x) → T (le x h) → T (finite x)
+unfolding le
+between-finite nan x h p q a b = absurd p
+between-finite (inf s) x h p q a b = absurd p
+between-finite (fin s m e) x nan p q a b = absurd q
+between-finite (fin s m e) x (inf t) p q a b = absurd q
+between-finite (fin s m e) nan (fin t n d) p q a b = absurd a
+between-finite (fin s m e) (inf false) (fin t n d) p q a b = absurd b
+between-finite (fin s m e) (inf true) (fin t n d) p q a b = absurd a
+between-finite (fin s m e) (fin u o g) (fin t n d) p q a b = tt
+
+-- the negative of a finite value is finite
+pub neg-finite : (x : Float) → T (finite x) → T (finite (neg x))
+unfolding neg
+neg-finite nan p = p
+neg-finite (inf s) p = p
+neg-finite (fin s m e) p = tt
+
+-- ---- between two values
+
+-- w lies between u and v, one way round or the other
+abbrev pub Between : Float → Float → Float → Type 0
+Between u v w = (T (le u w) × T (le w v)) ⊎ (T (le v w) × T (le w u))
+
+-- what lies between two values of a range lies in the range
+pub between-bounds : (l h u v w : Float) → T (le l u) → T (le l v) → T (le u h) → T (le v h) → Between u v w → T (le l w) × T (le w h)
+between-bounds l h u v w a b c d (inl t) = (le-trans l u w a (t .0), le-trans w v h (t .1) d)
+between-bounds l h u v w a b c d (inr t) = (le-trans l v w b (t .0), le-trans w u h (t .1) c)

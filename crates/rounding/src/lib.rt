@@ -1,0 +1,1 @@
+// The laws of rounded arithmetic are in proofs/; nothing here runs.
