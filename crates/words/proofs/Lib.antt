@@ -1,0 +1,11 @@
+-- The laws that the proofs of `words` cite, and those that callers cite.
+-- PatternLaws: a pattern and its value, either way, in either format
+pub mod PatternLaws
+-- FloorLaws: floor from the fields of a pattern
+pub mod FloorLaws
+-- FloorCode: what each return of floor and floorf gives
+pub mod FloorCode
+-- NarrowLaws: the f32 pattern nearest to an f64, from the pattern of the f64
+pub mod NarrowLaws
+-- WholeLaws: the whole part from std's truncation
+pub mod WholeLaws

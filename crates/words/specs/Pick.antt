@@ -1,0 +1,7 @@
+-- The Rust's `if`, as the definitions write it.
+use mathlib.Core.Bool.{Bool, true, false}
+
+-- the first where the test is true, else the second
+abbrev pub pick : {A : Type 0} → Bool → A → A → A
+pick true a b = a
+pick false a b = b
