@@ -1,0 +1,2 @@
+-- HornerLaws: what each return of `horner` and `hornerf` gives
+pub mod HornerLaws
