@@ -1,0 +1,227 @@
+//! What the Rust answers to a question to a single leaf: libm's functions, the language's casts, and
+//! Horner's rule written out. A NaN has one pattern, as an argument and as an answer.
+
+// The constants have the digits of the Rust.
+#![allow(clippy::excessive_precision)]
+
+use crate::patterns::Width;
+
+pub const NAN: u64 = 0x7ff8_0000_0000_0000;
+pub const NAN_F32: u32 = 0x7fc0_0000;
+
+/// The answer to a number that is no leaf's.
+pub const UNKNOWN: u64 = u64::MAX;
+
+/// A leaf of the port, as the program `leaves` numbers them.
+pub struct Leaf {
+    pub number: u64,
+    pub name: &'static str,
+    /// The width of the argument a.
+    pub width: Width,
+    /// Whether b, a word, is an argument too.
+    pub takes_word: bool,
+}
+
+const fn leaf(number: u64, name: &'static str, width: Width) -> Leaf {
+    let takes_word = number == 9 || number == 10;
+    Leaf {
+        number,
+        name,
+        width,
+        takes_word,
+    }
+}
+
+pub const LEAVES: [Leaf; 24] = [
+    leaf(1, "fabs", Width::Double),
+    leaf(2, "floor", Width::Double),
+    leaf(3, "whole", Width::Double),
+    leaf(4, "narrow", Width::Double),
+    leaf(5, "get_high_word", Width::Double),
+    leaf(6, "get_low_word", Width::Double),
+    leaf(7, "sign", Width::Double),
+    leaf(8, "size_word", Width::Double),
+    leaf(9, "with_set_high_word", Width::Double),
+    leaf(10, "with_set_low_word", Width::Double),
+    leaf(16, "horner of 0", Width::Double),
+    leaf(17, "horner of 1", Width::Double),
+    leaf(18, "horner of 2", Width::Double),
+    leaf(19, "horner of 5", Width::Double),
+    leaf(20, "horner of 9", Width::Double),
+    leaf(33, "fabsf", Width::Single),
+    leaf(34, "floorf", Width::Single),
+    leaf(35, "wholef", Width::Single),
+    leaf(36, "sign_f32", Width::Single),
+    leaf(37, "size_bits", Width::Single),
+    leaf(48, "hornerf of 0", Width::Single),
+    leaf(49, "hornerf of 1", Width::Single),
+    leaf(50, "hornerf of 2", Width::Single),
+    leaf(51, "hornerf of 5", Width::Single),
+];
+
+// erf.rs
+const PP0: f64 = 1.28379167095512558561e-01;
+const PP1: f64 = -3.25042107247001499370e-01;
+const PP2: f64 = -2.84817495755985104766e-02;
+const PP3: f64 = -5.77027029648944159157e-03;
+const PP4: f64 = -2.37630166566501626084e-05;
+const SA1: f64 = 1.96512716674392571292e+01;
+const SA2: f64 = 1.37657754143519042600e+02;
+const SA3: f64 = 4.34565877475229228821e+02;
+const SA4: f64 = 6.45387271733267880336e+02;
+const SA5: f64 = 4.29008140027567833386e+02;
+const SA6: f64 = 1.08635005541779435134e+02;
+const SA7: f64 = 6.57024977031928170135e+00;
+const SA8: f64 = -6.04244152148580987438e-02;
+
+// erff.rs
+const PP0_F32: f32 = 1.2837916613e-01;
+const PP1_F32: f32 = -3.2504209876e-01;
+const PP2_F32: f32 = -2.8481749818e-02;
+const PP3_F32: f32 = -5.7702702470e-03;
+const PP4_F32: f32 = -2.3763017452e-05;
+
+pub fn bits_of(x: f64) -> u64 {
+    if x.is_nan() {
+        NAN
+    } else {
+        x.to_bits()
+    }
+}
+
+pub fn bits_of_f32(x: f32) -> u32 {
+    if x.is_nan() {
+        NAN_F32
+    } else {
+        x.to_bits()
+    }
+}
+
+/// `as i32`, but 0 from size 2^31 on, where the Rust gives the nearest i32.
+fn whole(x: f64) -> u64 {
+    if x.abs() < 2147483648.0 {
+        u64::from((x as i32) as u32)
+    } else {
+        0
+    }
+}
+
+fn horner(leaf: u64, x: f64) -> f64 {
+    match leaf {
+        16 => 0.0,
+        17 => PP0,
+        18 => PP0 + x * PP1,
+        19 => PP0 + x * (PP1 + x * (PP2 + x * (PP3 + x * PP4))),
+        _ => {
+            1.0 + x
+                * (SA1
+                    + x * (SA2
+                        + x * (SA3 + x * (SA4 + x * (SA5 + x * (SA6 + x * (SA7 + x * SA8)))))))
+        }
+    }
+}
+
+fn hornerf(leaf: u64, x: f32) -> f32 {
+    match leaf {
+        48 => 0.0,
+        49 => PP0_F32,
+        50 => PP0_F32 + x * PP1_F32,
+        _ => PP0_F32 + x * (PP1_F32 + x * (PP2_F32 + x * (PP3_F32 + x * PP4_F32))),
+    }
+}
+
+fn answer_double(leaf: u64, x: f64, word: u32) -> u64 {
+    let bits = bits_of(x);
+    match leaf {
+        1 => bits_of(libm::fabs(x)),
+        2 => bits_of(libm::floor(x)),
+        3 => whole(x),
+        4 => u64::from(bits_of_f32(x as f32)),
+        5 => bits >> 32,
+        6 => bits & 0xffff_ffff,
+        7 => bits >> 63,
+        8 => (bits >> 32) & 0x7fff_ffff,
+        9 => bits_of(f64::from_bits(u64::from(word) << 32 | (bits & 0xffff_ffff))),
+        10 => bits_of(f64::from_bits((bits >> 32) << 32 | u64::from(word))),
+        16..=20 => bits_of(horner(leaf, x)),
+        _ => UNKNOWN,
+    }
+}
+
+fn answer_single(leaf: u64, x: f32) -> u64 {
+    let bits = bits_of_f32(x);
+    let answer = match leaf {
+        33 => bits_of_f32(libm::fabsf(x)),
+        34 => bits_of_f32(libm::floorf(x)),
+        35 => return whole(f64::from(x)),
+        36 => bits >> 31,
+        37 => bits & 0x7fff_ffff,
+        48..=51 => bits_of_f32(hornerf(leaf, x)),
+        _ => return UNKNOWN,
+    };
+    u64::from(answer)
+}
+
+/// The Rust's answer of a leaf at the arguments' bits a and b.
+pub fn answer(leaf: u64, a: u64, b: u64) -> u64 {
+    if leaf < 32 {
+        answer_double(leaf, f64::from_bits(a), b as u32)
+    } else {
+        answer_single(leaf, f32::from_bits(a as u32))
+    }
+}
+
+/// The bytes of a request to the program `leaves`.
+pub fn request(leaf: u64, a: u64, b: u64) -> [u8; 24] {
+    let mut bytes = [0; 24];
+    bytes[..8].copy_from_slice(&leaf.to_le_bytes());
+    bytes[8..16].copy_from_slice(&a.to_le_bytes());
+    bytes[16..].copy_from_slice(&b.to_le_bytes());
+    bytes
+}
+
+/// The Rust's answer to the bytes of a request.
+pub fn answer_bytes(request: &[u8]) -> [u8; 8] {
+    let word = |at: usize| u64::from_le_bytes(request[at..at + 8].try_into().unwrap());
+    answer(word(0), word(8), word(16)).to_le_bytes()
+}
+
+#[cfg(test)]
+mod tests {
+    use super::*;
+
+    fn double(leaf: u64, x: f64) -> u64 {
+        answer(leaf, x.to_bits(), 0)
+    }
+
+    #[test]
+    fn whole_is_zero_from_size_2_to_the_31_on() {
+        assert_eq!(double(3, -2147483647.9), 0x8000_0001);
+        assert_eq!(double(3, -2147483648.0), 0);
+        assert_eq!(double(3, 2147483647.9), 0x7fff_ffff);
+        assert_eq!(double(3, 2147483648.0), 0);
+        assert_eq!(double(3, f64::NAN), 0);
+        assert_eq!(double(3, -0.9), 0);
+    }
+
+    #[test]
+    fn a_nan_has_one_pattern() {
+        for nan in [0x7ff0_0000_0000_0001, u64::MAX] {
+            assert_eq!(answer(1, nan, 0), NAN);
+            assert_eq!(answer(4, nan, 0), u64::from(NAN_F32));
+            assert_eq!(answer(5, nan, 0), 0x7ff8_0000);
+            assert_eq!(answer(6, nan, 0), 0);
+            assert_eq!(answer(7, nan, 0), 0);
+        }
+        assert_eq!(answer(9, 1.5f64.to_bits(), 0xffff_ffff), NAN);
+        assert_eq!(answer(33, 0xffff_ffff, 0), u64::from(NAN_F32));
+    }
+
+    #[test]
+    fn an_unknown_number_is_all_ones() {
+        for number in 0..100 {
+            let known = LEAVES.iter().any(|l| l.number == number);
+            assert_eq!(answer(number, 0, 0) == UNKNOWN, !known);
+        }
+    }
+}

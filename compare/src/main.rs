@@ -1,0 +1,212 @@
+//! Compares the port with the Rust, bit for bit: the leaves by the program `leaves`, the request
+//! stream by the program `answers`.
+
+mod leaves;
+mod patterns;
+mod port;
+mod random;
+mod sample;
+mod stream;
+mod tally;
+mod traffic;
+
+use leaves::{Leaf, LEAVES};
+use patterns::{Patterns, Width};
+use port::{failure, Program};
+use random::Random;
+use std::io::{self, Read, Write};
+use std::process::ExitCode;
+use tally::{Progress, Tally};
+use traffic::Streams;
+
+const USAGE: &str = "usage:
+  compare leaves SEED COUNT [FILE]   every leaf, at COUNT random patterns beside the systematic ones
+  compare exhaustive-f32 [FILE]      leaves 33 to 37, at all 2^32 patterns
+  compare stream SEED COUNT [FILE]   COUNT requests of mixed kinds beside the systematic ones, and
+                                     damaged streams
+  compare sample SEED STDIN STDOUT   writes a list of requests to leaves, and the Rust's answers
+  compare answer                     the Rust in place of the program leaves
+  compare answers                    the Rust in place of the program answers
+FILE is a program to ask in place of the port's own.";
+
+/// The damaged streams of one run.
+const DAMAGED: u64 = 300;
+
+/// The requests of one stream.
+const STREAM: u64 = 1_000_000;
+
+fn main() -> ExitCode {
+    let words: Vec<String> = std::env::args().skip(1).collect();
+    let words: Vec<&str> = words.iter().map(String::as_str).collect();
+    match run(&words) {
+        Ok(status) => ExitCode::from(status),
+        Err(error) => {
+            eprintln!("compare: {error}");
+            ExitCode::from(2)
+        }
+    }
+}
+
+fn run(words: &[&str]) -> io::Result<u8> {
+    match words {
+        ["leaves", seed, count, file @ ..] => {
+            compare_leaves(number(seed)?, number(count)?, &program("leaves", file)?)
+        }
+        ["exhaustive-f32", file @ ..] => compare_all_singles(&program("leaves", file)?),
+        ["stream", seed, count, file @ ..] => {
+            compare_streams(number(seed)?, number(count)?, &program("answers", file)?)
+        }
+        ["sample", seed, requests, answers] => {
+            let list = sample::requests(number(seed)?);
+            std::fs::write(requests, list.concat())?;
+            let replies: Vec<_> = list.iter().map(|r| leaves::answer_bytes(r)).collect();
+            std::fs::write(answers, replies.concat())?;
+            eprintln!("{} requests", list.len());
+            Ok(0)
+        }
+        ["answer"] => {
+            let replies: Vec<_> = input()?
+                .chunks_exact(24)
+                .map(leaves::answer_bytes)
+                .collect();
+            io::stdout().write_all(&replies.concat())?;
+            Ok(0)
+        }
+        ["answers"] => {
+            io::stdout().write_all(&stream::program(&input()?))?;
+            Ok(0)
+        }
+        _ => Err(failure(USAGE)),
+    }
+}
+
+fn number(word: &str) -> io::Result<u64> {
+    word.parse()
+        .map_err(|_| failure(format!("{word} is not a number")))
+}
+
+fn program(name: &'static str, file: &[&str]) -> io::Result<Program> {
+    match file {
+        [] => Ok(Program::Named(name)),
+        [path] => Ok(Program::File(path.into())),
+        _ => Err(failure(USAGE)),
+    }
+}
+
+fn input() -> io::Result<Vec<u8>> {
+    let mut bytes = Vec::new();
+    io::stdin().read_to_end(&mut bytes)?;
+    Ok(bytes)
+}
+
+/// Asks a leaf `total` questions, which `question` makes from their places.
+fn compare_leaf(
+    leaf: &Leaf,
+    total: u64,
+    question: impl Fn(u64) -> (u64, u64) + Sync,
+    program: &Program,
+    tally: &mut Tally,
+) -> io::Result<()> {
+    let number = leaf.number;
+    let mut progress = Progress::new(format!("leaf {number}, {}", leaf.name), total);
+    let request = |place| {
+        let (a, b) = question(place);
+        leaves::request(number, a, b)
+    };
+    let check = |place, got| {
+        let (a, b) = question(place);
+        let want = leaves::answer(number, a, b);
+        tally.count(got == want, || {
+            let name = leaf.name;
+            format!("leaf {number}, {name}: a {a:#x}, b {b:#x}: port {got:#x}, Rust {want:#x}")
+        });
+        progress.at(place);
+    };
+    program.ask(total, request, check)?;
+    progress.end();
+    Ok(())
+}
+
+fn compare_leaves(seed: u64, count: u64, program: &Program) -> io::Result<u8> {
+    let (doubles, singles) = (Patterns::new(Width::Double), Patterns::new(Width::Single));
+    let mut tally = Tally::default();
+    for leaf in &LEAVES {
+        let patterns = match leaf.width {
+            Width::Double => &doubles,
+            Width::Single => &singles,
+        };
+        let question = |place| question(leaf, patterns, seed, place);
+        let total = patterns.systematic.len() as u64 + count;
+        compare_leaf(leaf, total, question, program, &mut tally)?;
+    }
+    Ok(tally.finish())
+}
+
+/// The arguments of a leaf's question at a place: first the systematic patterns, then random ones.
+fn question(leaf: &Leaf, patterns: &Patterns, seed: u64, place: u64) -> (u64, u64) {
+    let mut random = Random::at(seed, place << 8 | leaf.number);
+    let a = match patterns.systematic.get(place as usize) {
+        Some(&a) => a,
+        None => patterns.random(&mut random),
+    };
+    let b = match leaf.takes_word {
+        true => random.word(),
+        false => 0,
+    };
+    (a, b)
+}
+
+fn compare_all_singles(program: &Program) -> io::Result<u8> {
+    let mut tally = Tally::default();
+    for leaf in LEAVES.iter().filter(|l| (33..=37).contains(&l.number)) {
+        compare_leaf(leaf, 1 << 32, |place| (place, 0), program, &mut tally)?;
+    }
+    Ok(tally.finish())
+}
+
+fn compare_streams(seed: u64, count: u64, program: &Program) -> io::Result<u8> {
+    let streams = Streams::new();
+    let mut tally = Tally::default();
+    let mut progress = Progress::new("stream".to_string(), count);
+    compare_stream(&streams.systematic(), program, &mut tally)?;
+    let mut done = 0;
+    while done < count {
+        let part = STREAM.min(count - done);
+        let requests = streams.random(&mut Random::at(seed, done), part);
+        compare_stream(&requests, program, &mut tally)?;
+        done += part;
+        progress.at(done);
+    }
+    progress.end();
+    let progress = Progress::new("damaged streams".to_string(), DAMAGED);
+    for place in 0..DAMAGED {
+        let requests = streams.damaged(&mut Random::at(!seed, place));
+        compare_stream(&requests, program, &mut tally)?;
+    }
+    progress.end();
+    Ok(tally.finish())
+}
+
+/// Compares the answers to a stream record by record, and the end behind them.
+fn compare_stream(requests: &[u8], program: &Program, tally: &mut Tally) -> io::Result<()> {
+    let got = program.exchange(requests)?;
+    let want = stream::program(requests);
+    let (mut read, mut written) = (0, 0);
+    for _ in 0..stream::records(requests) {
+        let request = &requests[read..][..1 + stream::body_length(requests[read]).unwrap()];
+        let length = stream::answer_length(request[0]);
+        let answer = &want[written..][..length];
+        let port = got.get(written..written + length).unwrap_or(&[]);
+        tally.count(port == answer, || {
+            format!("request {request:02x?}: port {port:02x?}, Rust {answer:02x?}")
+        });
+        read += request.len();
+        written += length;
+    }
+    let (port, rust) = (got.get(written..).unwrap_or(&[]), &want[written..]);
+    tally.count(port == rust, || {
+        let front = &requests[read..requests.len().min(read + 9)];
+        format!("end of a stream at {front:02x?}: port {port:02x?}, Rust {rust:02x?}")
+    });
+    Ok(())
+}

@@ -1,0 +1,254 @@
+// Answers questions to single leaves, for the comparison with the Rust. A request is three u64, the lowest byte first: the leaf's number,
+// and its arguments' bits a and b. Its answer is one u64. A number that is not listed is answered by all ones.
+//
+//  1 fabs           5 get_high_word    9 with_set_high_word(a, b)
+//  2 floor          6 get_low_word    10 with_set_low_word(a, b)
+//  3 whole          7 sign
+//  4 narrow         8 size_word
+// 16 to 20 horner at a, over no coefficient, the first, the first two and all of erf's PP, and over erf's SA
+// 33 fabsf         36 sign_f32
+// 34 floorf        37 size_bits
+// 35 wholef
+// 48 to 51 hornerf at a, over no coefficient, the first, the first two and all of erff's PP
+//
+// An argument or an answer of 32 bits is the low half of its u64, and an i32 is its two's complement.
+use libc::STDIN_FILENO;
+use libc::STDOUT_FILENO;
+use poly::horner;
+use poly::hornerf;
+use words::bits::bits_of;
+use words::bits::bits_of_f32;
+use words::bits::get_high_word;
+use words::bits::get_low_word;
+use words::bits::of_bits;
+use words::bits::of_bits_f32;
+use words::bits::sign;
+use words::bits::sign_f32;
+use words::bits::size_bits;
+use words::bits::size_word;
+use words::bits::with_set_high_word;
+use words::bits::with_set_low_word;
+use words::fabs::fabs;
+use words::fabs::fabsf;
+use words::floor::floor;
+use words::floor::floorf;
+use words::narrow::narrow;
+use words::whole::whole;
+use words::whole::wholef;
+ghost use Prim.Native.Nat.{_+_, _*_, _≤_, _<_};
+ghost use lib.ListN.{length};
+
+const UNKNOWN: u64 = 0xffff_ffff_ffff_ffff;
+
+const NONE: [f64; 0] = [];
+
+const PP_ONE: [f64; 1] = [1.28379167095512558561e-01];
+
+const PP_TWO: [f64; 2] = [1.28379167095512558561e-01, -3.25042107247001499370e-01];
+
+const PP: [f64; 5] = [
+    1.28379167095512558561e-01,
+    -3.25042107247001499370e-01,
+    -2.84817495755985104766e-02,
+    -5.77027029648944159157e-03,
+    -2.37630166566501626084e-05,
+];
+
+const SA: [f64; 9] = [
+    1.0,
+    1.96512716674392571292e+01,
+    1.37657754143519042600e+02,
+    4.34565877475229228821e+02,
+    6.45387271733267880336e+02,
+    4.29008140027567833386e+02,
+    1.08635005541779435134e+02,
+    6.57024977031928170135e+00,
+    -6.04244152148580987438e-02,
+];
+
+const NONE_F32: [f32; 0] = [];
+
+const PP_ONE_F32: [f32; 1] = [1.2837916613e-01];
+
+const PP_TWO_F32: [f32; 2] = [1.2837916613e-01, -3.2504209876e-01];
+
+const PP_F32: [f32; 5] = [
+    1.2837916613e-01,
+    -3.2504209876e-01,
+    -2.8481749818e-02,
+    -5.7702702470e-03,
+    -2.3763017452e-05,
+];
+
+// The 32 bits of a whole number.
+fn pattern(k: i32) -> u64 {
+    if k >= 0 {
+        return k as u64;
+    }
+    0xffff_ffff - ((0 - (k + 1)) as u64)
+}
+
+fn number_leaf(leaf: u64, x: f64) -> u64 {
+    match leaf {
+        1 => bits_of(fabs(x)),
+        2 => bits_of(floor(x)),
+        3 => pattern(whole(x)),
+        4 => bits_of_f32(narrow(x)) as u64,
+        _ => UNKNOWN,
+    }
+}
+
+fn word_leaf(leaf: u64, x: f64, w: u32) -> u64 {
+    match leaf {
+        5 => get_high_word(x) as u64,
+        6 => get_low_word(x) as u64,
+        7 => sign(x) as u64,
+        8 => size_word(x) as u64,
+        9 => bits_of(with_set_high_word(x, w)),
+        10 => bits_of(with_set_low_word(x, w)),
+        _ => UNKNOWN,
+    }
+}
+
+fn horner_leaf(leaf: u64, x: f64) -> u64 {
+    match leaf {
+        16 => bits_of(horner(&NONE, x)),
+        17 => bits_of(horner(&PP_ONE, x)),
+        18 => bits_of(horner(&PP_TWO, x)),
+        19 => bits_of(horner(&PP, x)),
+        20 => bits_of(horner(&SA, x)),
+        _ => UNKNOWN,
+    }
+}
+
+fn number_leaf_f32(leaf: u64, x: f32) -> u64 {
+    match leaf {
+        33 => bits_of_f32(fabsf(x)) as u64,
+        34 => bits_of_f32(floorf(x)) as u64,
+        35 => pattern(wholef(x)),
+        36 => sign_f32(x) as u64,
+        37 => size_bits(x) as u64,
+        _ => UNKNOWN,
+    }
+}
+
+fn horner_leaf_f32(leaf: u64, x: f32) -> u64 {
+    match leaf {
+        48 => bits_of_f32(hornerf(&NONE_F32, x)) as u64,
+        49 => bits_of_f32(hornerf(&PP_ONE_F32, x)) as u64,
+        50 => bits_of_f32(hornerf(&PP_TWO_F32, x)) as u64,
+        51 => bits_of_f32(hornerf(&PP_F32, x)) as u64,
+        _ => UNKNOWN,
+    }
+}
+
+fn low_half(x: u64) -> u32 {
+    (x % 0x1_0000_0000) as u32
+}
+
+// The answer of one leaf.
+fn answer(leaf: u64, a: u64, b: u64) -> u64 {
+    if leaf < 5 {
+        return number_leaf(leaf, of_bits(a));
+    }
+    if leaf < 16 {
+        return word_leaf(leaf, of_bits(a), low_half(b));
+    }
+    if leaf < 32 {
+        return horner_leaf(leaf, of_bits(a));
+    }
+    if leaf < 48 {
+        return number_leaf_f32(leaf, of_bits_f32(low_half(a)));
+    }
+    horner_leaf_f32(leaf, of_bits_f32(low_half(a)))
+}
+
+fn wide(x: u8) -> u64
+    ensures { λ r. ⌜ r < 256 ⌝ }
+{
+    x as u64
+}
+
+// The number that the four bytes from `at` on make.
+fn get_half(s: &[u8], at: usize) -> u64
+    requires { ⌜ at + 4 ≤ length (now s) ⌝ }
+    ensures { λ r. ⌜ r < 0x1_0000_0000 ⌝ }
+{
+    wide(s[at])
+        + wide(s[at + 1]) * 0x100
+        + wide(s[at + 2]) * 0x1_0000
+        + wide(s[at + 3]) * 0x100_0000
+}
+
+fn get(s: &[u8], at: usize) -> u64
+    requires { ⌜ at + 8 ≤ length (now s) ⌝ }
+{
+    get_half(s, at) + get_half(s, at + 4) * 0x1_0000_0000
+}
+
+// Writes the lowest byte of `x` at `at`.
+fn put_byte(s: &mut [u8], at: usize, x: u64)
+    requires { ⌜ at < length (now s) ⌝ }
+{
+    s[at] = (x % 0x100) as u8;
+}
+
+// Writes the four lowest bytes of `x` from `at` on.
+fn put_half(s: &mut [u8], at: usize, x: u64)
+    requires { ⌜ at + 4 ≤ length (now s) ⌝ }
+{
+    put_byte(s, at, x);
+    put_byte(s, at + 1, x / 0x100);
+    put_byte(s, at + 2, x / 0x1_0000);
+    put_byte(s, at + 3, x / 0x100_0000);
+}
+
+fn put(s: &mut [u8], at: usize, x: u64)
+    requires { ⌜ at + 8 ≤ length (now s) ⌝ }
+{
+    put_half(s, at, x);
+    put_half(s, at + 4, x / 0x1_0000_0000);
+}
+
+// Answers request number i.
+fn answer_at(requests: &[u8], i: usize, answers: &mut [u8])
+    requires { ⌜ (i * 24 + 24 ≤ length (now requests)) × (i * 8 + 8 ≤ length (now answers)) ⌝ }
+{
+    let at = i * 24;
+    let bits = answer(
+        get(requests, at),
+        get(requests, at + 8),
+        get(requests, at + 16),
+    );
+    put(answers, i * 8, bits);
+}
+
+// Answers the first `count` requests.
+fn answer_each(requests: &[u8], count: usize, answers: &mut [u8])
+    requires { ⌜ (count * 24 ≤ length (now requests)) × (count * 8 ≤ length (now answers)) ⌝ }
+{
+    let mut i = 0;
+    while i < count {
+        answer_at(requests, i, answers);
+        i = i + 1;
+    }
+}
+
+// Reads requests until the buffer of 2048 is full or the input ends, answers them, and says whether to go on.
+fn turn() -> bool {
+    let mut requests = [0u8; 49152];
+    let mut answers = [0u8; 16384];
+    let got = io::read_full(STDIN_FILENO, &mut requests);
+    let count = got / 24;
+    answer_each(&requests, count, &mut answers);
+    let is_written = io::write_all(STDOUT_FILENO, &answers[..count * 8]);
+    is_written && got == 49152
+}
+
+// Nothing says that the input ends, so the turns are counted down, from a number that no run uses up.
+fn main() {
+    let mut turns = u64::MAX;
+    while turns > 0 && turn() {
+        turns = turns - 1;
+    }
+}
