@@ -9,3 +9,7 @@ pub mod FloorCode
 pub mod NarrowLaws
 -- WholeLaws: the whole part from std's truncation
 pub mod WholeLaws
+-- CutLaws: cuts on the size of a value as cuts on its bits and its size word, either way
+pub mod CutLaws
+-- WholeBounds: the whole part of a value between two whole numbers
+pub mod WholeBounds

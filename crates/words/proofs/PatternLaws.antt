@@ -65,7 +65,7 @@ unsigned-lt : (f : Format) (m : ℕ) (e : ℤ) → T (fits f (fin false m e)) �
 unsigned-lt f m e h =
     omega (arith, signed-pattern f m e, toBits-lt f (fin true m e) (fits-any-sign f false true m e h))
 
-unsigned-rest : (f : Format) (s : Bool) (m : ℕ) (e : ℤ) → T (fits f (fin false m e)) → toBits f (fin s m e) % top f ≡ toBits f (fin false m e)
+pub unsigned-rest : (f : Format) (s : Bool) (m : ℕ) (e : ℤ) → T (fits f (fin false m e)) → toBits f (fin s m e) % top f ≡ toBits f (fin false m e)
 unsigned-rest f true m e h =
     ap (λ (n : ℕ). n % top f) (signed-pattern f m e) ∙ add-mod-left (top f) _ ∙ mod-eq-of-lt (unsigned-lt f m e h)
 unsigned-rest f false m e h = mod-eq-of-lt (unsigned-lt f m e h)

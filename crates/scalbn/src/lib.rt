@@ -1,0 +1,72 @@
+// scalbn: x times 2^n.
+ghost use mathlib.Core.Path.{_≡_};
+ghost use mathlib.Core.Bool.{true, false};
+ghost use lib.IntN.{ℤ, pos, negsuc};
+ghost use lib.Signed.{ltZ};
+ghost use lib.Ieee.{binary64};
+ghost use Rattle.scalbn.specs.Scalbn.{power2, upS, downS, scalbnS};
+use words::bits::of_bits;
+
+const EXP_MAX: i32 = 1023;
+
+const EXP_MIN: i32 = -1022;
+
+const SIG_TOTAL_BITS: i32 = 53;
+
+// -exp_min - sig_total_bits
+const ADD: i32 = 1022 - 53;
+
+// 2^n.
+fn power(n: i32) -> f64
+    requires { ⌜ (ltZ n (negsuc 1021) ≡ false) × (ltZ (pos 1023) n ≡ false) ⌝ }
+    ensures { λ r. ⌜ r ≡ power2 binary64 n ⌝ }
+{
+    of_bits((EXP_MAX + n) as u64 * 0x10_0000_0000_0000)
+}
+
+fn up(x: f64, n: i32) -> f64
+    requires { ⌜ ltZ (pos 1023) n ≡ true ⌝ }
+    ensures { λ r. ⌜ r ≡ upS binary64 x n ⌝ }
+{
+    let x1 = x * power(EXP_MAX);
+    let n1 = n - EXP_MAX;
+    if n1 > EXP_MAX {
+        let x2 = x1 * power(EXP_MAX);
+        let n2 = n1 - EXP_MAX;
+        if n2 > EXP_MAX {
+            return x2 * power(EXP_MAX);
+        }
+        return x2 * power(n2);
+    }
+    x1 * power(n1)
+}
+
+fn down(x: f64, n: i32) -> f64
+    requires { ⌜ ltZ n (negsuc 1021) ≡ true ⌝ }
+    ensures { λ r. ⌜ r ≡ downS binary64 x n ⌝ }
+{
+    let scale = power(EXP_MIN) * power(SIG_TOTAL_BITS);
+    let x1 = x * scale;
+    let n1 = n + ADD;
+    if n1 < EXP_MIN {
+        let x2 = x1 * scale;
+        let n2 = n1 + ADD;
+        if n2 < EXP_MIN {
+            return x2 * power(EXP_MIN);
+        }
+        return x2 * power(n2);
+    }
+    x1 * power(n1)
+}
+
+pub fn scalbn(x: f64, n: i32) -> f64
+    ensures { λ r. ⌜ r ≡ scalbnS binary64 x n ⌝ }
+{
+    if n > EXP_MAX {
+        return up(x, n);
+    }
+    if n < EXP_MIN {
+        return down(x, n);
+    }
+    x * power(n)
+}
