@@ -1,0 +1,4 @@
+pub mod Exponents
+pub mod Reduction
+pub mod Regions
+pub mod SpecialValues

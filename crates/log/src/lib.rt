@@ -1,0 +1,88 @@
+// The natural logarithm in f64, as the Rust's log.rs has it.
+ghost use Prim.Native.Nat.{_<_};
+ghost use mathlib.Core.Path.{_≡_};
+ghost use lib.IntN.{pos, natAbs, _+ℤ_, _-ℤ_};
+ghost use Rattle.log.specs.Log.{nearS, reducedS, logS};
+use poly::horner;
+use words::bits::bits_of;
+use words::bits::of_bits;
+
+const MINUS_ONE: f64 = -1.0;
+
+const X1P54: f64 = 18014398509481984.0; /* 0x1p54 === 2 ^ 54 */
+
+const LN2_HI: f64 = 6.93147180369123816490e-01; /* 3fe62e42 fee00000 */
+
+const LN2_LO: f64 = 1.90821492927058770002e-10; /* 3dea39ef 35793c76 */
+
+const LG_EVEN: [f64; 3] = [
+    3.999999999940941908e-01, /* LG2 3FD99999 9997FA04 */
+    2.222219843214978396e-01, /* LG4 3FCC71C5 1D8E78AF */
+    1.531383769920937332e-01, /* LG6 3FC39A09 D078C69F */
+];
+
+const LG_ODD: [f64; 4] = [
+    6.666666666666735130e-01, /* LG1 3FE55555 55555593 */
+    2.857142874366239149e-01, /* LG3 3FD24924 94229359 */
+    1.818357216161805012e-01, /* LG5 3FC74664 96CB03DE */
+    1.479819860511658591e-01, /* LG7 3FC2F112 DF3E5244 */
+];
+
+// log of x * 2 ^ k, for an x from sqrt(2)/2 to sqrt(2).
+fn near(x: f64, k: i32) -> f64
+    ensures { λ r. ⌜ r ≡ nearS x k ⌝ }
+{
+    let f = x - 1.0;
+    let hfsq = 0.5 * f * f;
+    let s = f / (2.0 + f);
+    let z = s * s;
+    let w = z * z;
+    let t1 = w * horner(&LG_EVEN, w);
+    let t2 = z * horner(&LG_ODD, w);
+    let r = t2 + t1;
+    let dk = k as f64;
+    s * (hfsq + r) + dk * LN2_LO - hfsq + f + dk * LN2_HI
+}
+
+// k and the exponent whose field is e.
+fn exponent(k: i32, e: u64) -> i32
+    requires { ⌜ natAbs k < 64 ⌝ }
+    requires { ⌜ e < 8192 ⌝ }
+    ensures { λ r. ⌜ r ≡ k +ℤ (pos e -ℤ pos 0x3FF) ⌝ }
+{
+    k + (e as i32 - 0x3ff)
+}
+
+// Reduces the number whose pattern is ui into [sqrt(2)/2, sqrt(2)].
+fn reduced(ui: u64, k: i32) -> f64
+    requires { ⌜ natAbs k < 64 ⌝ }
+    ensures { λ r. ⌜ r ≡ reducedS ui k ⌝ }
+{
+    let hx = ui / 0x1_0000_0000 + (0x3ff0_0000 - 0x3fe6_a09e);
+    let k = exponent(k, hx / 0x10_0000);
+    let hx = hx % 0x10_0000 + 0x3fe6_a09e;
+    near(of_bits(hx * 0x1_0000_0000 + ui % 0x1_0000_0000), k)
+}
+
+pub fn log(x: f64) -> f64
+    ensures { λ r. ⌜ r ≡ logS x ⌝ }
+{
+    let ui = bits_of(x);
+    let hx = ui / 0x1_0000_0000;
+    if hx < 0x0010_0000 || hx >= 0x8000_0000 {
+        if ui % 0x8000_0000_0000_0000 == 0 {
+            return MINUS_ONE / (x * x);
+        }
+        if hx >= 0x8000_0000 {
+            return (x - x) / 0.0;
+        }
+        return reduced(bits_of(x * X1P54), -54);
+    }
+    if hx >= 0x7ff0_0000 {
+        return x;
+    }
+    if hx == 0x3ff0_0000 && ui % 0x1_0000_0000 == 0 {
+        return 0.0;
+    }
+    reduced(ui, 0)
+}

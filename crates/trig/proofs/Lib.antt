@@ -1,0 +1,2 @@
+pub mod CosineRange
+pub mod SineRange

@@ -1,0 +1,2 @@
+pub mod KSin
+pub mod KCos
