@@ -1,0 +1,2 @@
+-- What the functions of `sqrt` promise.
+pub mod Sqrt

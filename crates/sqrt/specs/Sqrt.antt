@@ -1,0 +1,31 @@
+-- sqrt: the square root, rounded once. The Rust's sqrt.rs is one machine instruction on x86-64 and on aarch64, and this is what it gives.
+use Prim.Native.Nat.{ℕ, zero, suc, _+_, _*_, _/_, _^_}
+use mathlib.Core.Bool.{true, false}
+use lib.Dec.{leb, eqb}
+use lib.Ieee.{Float, nan, inf, fin, binary64, up, down, size, round}
+use Rattle.words.specs.Pick.{pick}
+
+-- The root of an n below 4 ^ k without its fraction: twice that of n / 4, or 1 more.
+unfoldable pub rootOf : ℕ → ℕ → ℕ
+rootOf zero n = 0
+rootOf (suc k) n = let r = 2 * rootOf k (n / 4) in pick (leb ((r + 1) * (r + 1)) n) (r + 1) r
+
+-- The greatest r with r * r ≤ n (law `root-is` of proofs/Root.antt).
+unfoldable pub root : ℕ → ℕ
+unfolding rootOf
+root n = rootOf (size n) n
+
+-- For a positive x, which is m * 2 ^ e, n = x * 4 ^ 601 is a whole number, and the root of x is that of n over 2 ^ 601. The root of n lies from
+-- r to below r + 1. r has 65 binary digits or more, where an f64 has 53 and the middle of two neighbours 54: so all that lies between r and
+-- r + 1 is rounded alike, and r + 1/2 stands for it. That the answer is the f64 nearest to the root is law `nearest` of proofs/Nearest.antt.
+unfoldable pub sqrtS : Float → Float
+unfolding root round
+sqrtS nan = nan
+sqrtS (inf true) = nan
+sqrtS (inf false) = inf false
+sqrtS (fin s zero e) = fin s zero e
+sqrtS (fin true (suc m) e) = nan
+sqrtS (fin false (suc m) e) =
+    let n = suc m * up e * 4 ^ 601 / down e in
+    let r = root n in
+    round binary64 false (2 * r + pick (eqb (r * r) n) 0 1) (2 * 2 ^ 601)
