@@ -1,0 +1,2 @@
+-- What `pow` promises.
+pub mod Pow

@@ -1,0 +1,2 @@
+-- What the functions of `pow_exp` promise.
+pub mod Exp2

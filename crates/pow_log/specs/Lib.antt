@@ -1,0 +1,2 @@
+-- What the functions of `pow_log` promise.
+pub mod Log2
