@@ -1,0 +1,3 @@
+-- Plan: what erf.rs and erff.rs have in common. Erf64: the constants and cuts of erf.rs, and erf and erfc by them.
+pub mod Plan
+pub mod Erf64
