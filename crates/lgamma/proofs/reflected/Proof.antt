@@ -1,0 +1,57 @@
+-- `lgamma::reflected` meets its contract. Assumes nothing.
+use Rattle.lgamma.specs.Plan.{reflectedS}
+use borrow.Author.Needs.{needs}
+use Rattle.lgamma.proofs.reflected.Statement.{statement}
+use Rattle.lgamma.proofs.reflected.Tie as tie
+
+answer-requires : tie.Need-answer-requires
+answer-requires c κs = search needs
+
+returns : tie.Need-returns
+unfolding reflectedS
+returns c = simp (c .before .if1 .taken) (c .answer .ensures)
+
+log-requires : tie.Need-log-requires
+log-requires c κs = search needs
+
+size-requires : tie.Need-size-requires
+size-requires c κs = search needs
+
+answer-requires-2 : tie.Need-answer-requires-2
+answer-requires-2 c κs = search needs
+
+returns-2 : tie.Need-returns-2
+unfolding reflectedS
+returns-2 c =
+    let t = c .before .before .before in
+    simp (t .before .if1 .left, t .if2 .taken) (rw (c .before .before .log .ensures, c .before .size .ensures) at (c .answer2 .ensures))
+
+log-requires-2 : tie.Need-log-requires-2
+log-requires-2 c κs = search needs
+
+size-requires-2 : tie.Need-size-requires-2
+size-requires-2 c κs = search needs
+
+answer-requires-3 : tie.Need-answer-requires-3
+answer-requires-3 c κs = search needs
+
+returns-3 : tie.Need-returns-3
+unfolding reflectedS
+returns-3 c =
+    let t = c .before .before .before in
+    simp (t .before .if1 .left, t .if2 .left) (rw (c .before .before .log2 .ensures, c .before .size2 .ensures) at (c .answer3 .ensures))
+
+pub reflected-spec : {M : Type 1} → statement M
+reflected-spec =
+    tie.close
+    (tie.spec
+    answer-requires
+    returns
+    log-requires
+    size-requires
+    answer-requires-2
+    returns-2
+    log-requires-2
+    size-requires-2
+    answer-requires-3
+    returns-3)

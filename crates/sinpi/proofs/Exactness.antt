@@ -1,0 +1,180 @@
+-- The reduction of sinpi, exactly, over the format. L = 2 ^ low smallest units are 1; x, with no minus sign, is X = m * 2 ^ (j + 1) units. Then x mod 2
+-- is X mod 2 L units (`turn-value`, `turn-is`), and x mod 2 less n / 2 is exact too (`fold-down`, `fold-up`).
+-- L stays a variable in the arithmetic: its numeral is too long for `omega`. Assumes nothing.
+use mathlib.Core.Path.{_≡_, refl, sym, ap, _∙_, subst}
+use mathlib.Core.Logic.{inl, inr}
+use Prim.Native.Nat.{ℕ, suc, _+_, _-_, _*_, _/_, _%_, _^_, _≤_, _<_}
+use native.Mathlib.Nat.{le-of-lt, lt-of-le-of-lt, add-comm, add-mul, mul-comm, mul-assoc, mul-left-comm, mul-right-comm, one-mul, mul-sub, mul-le-mul-right, mul-le-mul-left, mul-lt-mul-of-pos-right, div-add-mod', mod-lt, mod-le, mod-eq-of-lt, add-mul-mod-self-right, pow-succ', le-of-mul-le-mul-right, eq-zero-or-pos}
+use native.Mathlib.Omega.{arith}
+use mathlib.Core.Bool.{Bool, true, false}
+use lib.IntN.{pos, negsuc, natAbs}
+use lib.Pow.{pow-pos, pow-add, pow-mono}
+use lib.Ieee.{Float, nan, inf, fin, Format, prec, emax, low, up, down, round, mul, sub}
+use lib.Ieee.Fits.{down-pos, round-fits}
+use lib.Ieee.Nearest.{div-same}
+use lib.Ieee.Exact.{HasValue}
+use lib.Ieee.Back.{round-whole}
+use borrow.Author.Tests.{lt-ltb}
+use Rattle.rounding.proofs.Exact.{mul-pow-exact, half-exact, sub-exact, sub-exact-neg}
+use Rattle.words.specs.Floor.{floorS}
+use Rattle.words.specs.Whole.{wholeS}
+use Rattle.words.proofs.FloorLaws.{stays, falls}
+
+-- ---- numbers
+pub mod-unique : (n k M r : ℕ) → n ≡ r + k * M → r < M → n % M ≡ r
+mod-unique n k M r e h = ap (λ (z : ℕ). z % M) e ∙ add-mul-mod-self-right r k M ∙ mod-eq-of-lt h
+
+-- a common factor of a number and a divisor is one of the remainder
+pub mod-scale : (m c g : ℕ) → 0 < c → 0 < g → m * g % (c * g) ≡ m % c * g
+mod-scale m c g C G =
+    mod-unique (m * g) (m / c) (c * g) (m % c * g)
+    (ap (λ (z : ℕ). z * g) (sym (div-add-mod' m c)) ∙ spread (m / c) c (m % c) g)
+    (mul-lt-mul-of-pos-right (mod-lt m C) G)
+  where
+    spread : (a c r g : ℕ) → (a * c + r) * g ≡ r * g + a * (c * g)
+    spread a c r g = add-mul (a * c) r g ∙ add-comm (a * c * g) (r * g) ∙ ap (λ (z : ℕ). r * g + z) (mul-assoc a c g)
+
+minus-part : (a b r : ℕ) → b + r ≡ a → a - b ≡ r
+minus-part a b r h = omega arith
+
+part-le : (a b r : ℕ) → b + r ≡ a → b ≤ a
+part-le a b r h = omega arith
+
+sub-le : (a b : ℕ) → a - b ≤ a
+sub-le a b = omega arith
+
+-- ---- floor and the whole part of a value A / L
+
+-- another fraction of the same value
+widen : (x : Float) (s : Bool) (a c k : ℕ) → HasValue x s a c → HasValue x s (a * k) (c * k)
+widen nan s a c k v = v
+widen (inf t) s a c k v = v
+widen (fin t m e) s a c k v = (v .0, sym (mul-assoc (m * up e) c k) ∙ ap (λ (z : ℕ). z * k) (v .1) ∙ mul-right-comm a (down e) k)
+
+floor-value : (f : Format) (x : Float) (A L : ℕ) → 0 < L → HasValue x false A L → A / L < 2 ^ prec f → HasValue (floorS f x) false (A / L * L) L
+floor-value f x A L l v h =
+    elim (eq-zero-or-pos (A % L)) [
+      | inl z ↦ subst (λ (y : Float). HasValue y false (A / L * L) L) (stays f x false A L l v z)
+          (subst (λ (a : ℕ). HasValue x false a L) (all (A / L * L) (A % L) A (div-add-mod' A L) z) v)
+      | inr p ↦ subst (λ (y : Float). HasValue y false (A / L * L) L)
+          (falls f x (round f false (A / L) 1) false A L l v (λ (z : A % L ≡ 0). no (A % L) z p) h (round-fits f false (A / L) 1) (round-whole f false (A / L) (le-of-lt h)))
+          (subst (λ (c : ℕ). HasValue (round f false (A / L) 1) false (A / L * L) c) (one-mul L) (widen (round f false (A / L) 1) false (A / L) 1 L (round-whole f false (A / L) (le-of-lt h))))
+    ]
+  where
+    all : (q r a : ℕ) → q + r ≡ a → r ≡ 0 → a ≡ q
+    all q r a h z = omega arith
+
+    no : (r : ℕ) → r ≡ 0 → 0 < r → ⊥
+    no r z p = omega arith
+
+pub whole-value : (x : Float) (A L : ℕ) → 0 < L → HasValue x false A L → A / L < 2 ^ 31 → natAbs (wholeS x) ≡ A / L
+unfolding wholeS
+whole-value nan A L l v h = absurd v
+whole-value (inf t) A L l v h = absurd v
+whole-value (fin t m e) A L l v h =
+    let q = div-same (m * up e) (down e) A L (down-pos e) l (v .1) in
+    rw (v .0, q, lt-ltb (A / L) (2 ^ 31) h)
+
+-- ---- x mod 2
+abbrev pub half+ : Float
+half+ = fin false 1 (negsuc 0)
+
+-- 2 (x / 2 - floor (x / 2))
+abbrev pub turnOf : Format → Float → Float
+turnOf f x = mul f (fin false 1 (pos 1)) (sub f (mul f x half+) (floorS f (mul f x half+)))
+
+grow : (m j K : ℕ) → m * 2 ^ suc j < K → m * 2 ^ j < K
+grow m j K h = lt-of-le-of-lt (mul-le-mul-left m (pow-mono (step j))) h
+  where
+    step : (j : ℕ) → j ≤ suc j
+    step j = omega arith
+
+-- x / 2 is exact
+pub half-value : (f : Format) (x : Float) (m j : ℕ) → HasValue x false (m * 2 ^ suc j) (2 ^ low f) → m < 2 ^ prec f
+    → m * 2 ^ suc j < 2 ^ (low f + suc (emax f)) → HasValue (mul f x half+) false (m * 2 ^ j) (2 ^ low f)
+half-value f x m j v small fine =
+    half-exact f x false (m * 2 ^ j) j
+    (subst (λ (z : ℕ). HasValue x false z (2 ^ low f)) (ap (λ (z : ℕ). m * z) (pow-succ' 2 j ∙ mul-comm 2 (2 ^ j)) ∙ sym (mul-assoc m (2 ^ j) 2)) v)
+    (m, refl, small, grow m j (2 ^ (low f + suc (emax f))) fine)
+
+-- the fraction of x / 2, in multiples of 2 ^ j units
+abbrev pub restOf : Format → ℕ → ℕ → ℕ
+restOf f m j = m % 2 ^ (low f - j)
+
+module _ (f : Format) (x : Float) (m j : ℕ) (v : HasValue x false (m * 2 ^ suc j) (2 ^ low f)) (small : m < 2 ^ prec f) (fine : m * 2 ^ suc j < 2 ^ (low f + suc (emax f))) (deep : j ≤ low f) (few : m * 2 ^ j / 2 ^ low f < 2 ^ prec f) where
+  -- L is 2 ^ (low - j) * 2 ^ j
+  unit-is : 2 ^ low f ≡ 2 ^ (low f - j) * 2 ^ j
+  unit-is = ap (λ (z : ℕ). 2 ^ z) (sym (back (low f) j deep)) ∙ pow-add 2 (low f - j) j
+    where
+      back : (l j : ℕ) → j ≤ l → l - j + j ≡ l
+      back l j h = omega arith
+
+  rest-lt : restOf f m j < 2 ^ prec f
+  rest-lt = lt-of-le-of-lt (mod-le m (2 ^ (low f - j))) small
+
+  rest-is : m * 2 ^ j % 2 ^ low f ≡ restOf f m j * 2 ^ j
+  rest-is = ap (λ (z : ℕ). m * 2 ^ j % z) unit-is ∙ mod-scale m (2 ^ (low f - j)) (2 ^ j) (pow-pos (low f - j)) (pow-pos j)
+
+  part-value : HasValue (sub f (mul f x half+) (floorS f (mul f x half+))) false (restOf f m j * 2 ^ j) (2 ^ low f)
+  part-value =
+      let A = m * 2 ^ j in
+      let L = 2 ^ low f in
+      let half = half-value f x m j v small fine in
+      let e : A / L * L + restOf f m j * 2 ^ j ≡ A = ap (λ (z : ℕ). A / L * L + z) (sym rest-is) ∙ div-add-mod' A L in
+      let d : A - A / L * L ≡ restOf f m j * 2 ^ j = minus-part A (A / L * L) (restOf f m j * 2 ^ j) e in
+      subst (λ (z : ℕ). HasValue (sub f (mul f x half+) (floorS f (mul f x half+))) false z L) d
+      (sub-exact f (mul f x half+) (floorS f (mul f x half+)) A (A / L * L) j half
+      (floor-value f (mul f x half+) A L (pow-pos (low f)) half few) (part-le A (A / L * L) (restOf f m j * 2 ^ j) e)
+      (restOf f m j, d, rest-lt, lt-of-le-of-lt (sub-le A (A / L * L)) (grow m j (2 ^ (low f + suc (emax f))) fine)))
+
+  twice-rest : 2 ^ 1 * (restOf f m j * 2 ^ j) ≡ restOf f m j * 2 ^ suc j
+  twice-rest = mul-left-comm 2 (restOf f m j) (2 ^ j) ∙ ap (λ (z : ℕ). restOf f m j * z) (sym (pow-succ' 2 j))
+
+  turn-fine : restOf f m j * 2 ^ suc j < 2 ^ (low f + suc (emax f))
+  turn-fine = lt-of-le-of-lt (mul-le-mul-right (2 ^ suc j) (mod-le m (2 ^ (low f - j)))) fine
+
+  pub turn-value : HasValue (turnOf f x) false (restOf f m j * 2 ^ suc j) (2 ^ low f)
+  turn-value =
+      subst (λ (z : ℕ). HasValue (turnOf f x) false z (2 ^ low f)) twice-rest
+      (mul-pow-exact f (sub f (mul f x half+) (floorS f (mul f x half+))) (restOf f m j * 2 ^ j) 1 (suc j) part-value
+      (restOf f m j, twice-rest, rest-lt, subst (λ (z : ℕ). z < 2 ^ (low f + suc (emax f))) (sym twice-rest) turn-fine))
+
+  -- it is X mod 2 L
+  pub turn-is : m * 2 ^ suc j % (2 * 2 ^ low f) ≡ restOf f m j * 2 ^ suc j
+  turn-is =
+      ap (λ (z : ℕ). m * 2 ^ suc j % z)
+      (ap (λ (z : ℕ). 2 * z) unit-is ∙ mul-left-comm 2 (2 ^ (low f - j)) (2 ^ j) ∙ ap (λ (z : ℕ). 2 ^ (low f - j) * z) (sym (pow-succ' 2 j)))
+      ∙ mod-scale m (2 ^ (low f - j)) (2 ^ suc j) (pow-pos (low f - j)) (pow-pos (suc j))
+
+  -- ---- x mod 2 less n / 2, for a c that is n / 2
+  steps : ℕ → ℕ
+  steps n = n * 2 ^ (low f - 1 - suc j)
+
+  steps-is : suc j < low f → (n : ℕ) → n * 2 ^ (low f - 1) ≡ steps n * 2 ^ suc j
+  unfolding steps
+  steps-is h n =
+      ap (λ (z : ℕ). n * z) (ap (λ (z : ℕ). 2 ^ z) (sym (back (low f) j h)) ∙ pow-add 2 (low f - 1 - suc j) (suc j))
+      ∙ sym (mul-assoc n (2 ^ (low f - 1 - suc j)) (2 ^ suc j))
+    where
+      back : (l j : ℕ) → suc j < l → l - 1 - suc j + suc j ≡ l - 1
+      back l j h = omega arith
+
+  times-minus : (a b g : ℕ) → a * g - b * g ≡ (a - b) * g
+  times-minus a b g = ap (λ (z : ℕ). z - b * g) (mul-comm a g) ∙ ap (λ (z : ℕ). g * a - z) (mul-comm b g) ∙ sym (mul-sub g a b) ∙ mul-comm g (a - b)
+
+  -- n / 2 up to x mod 2
+  pub fold-down : suc j < low f → (n : ℕ) (c : Float) → HasValue c false (n * 2 ^ (low f - 1)) (2 ^ low f)
+      → n * 2 ^ (low f - 1) ≤ restOf f m j * 2 ^ suc j
+      → HasValue (sub f (turnOf f x) c) false (restOf f m j * 2 ^ suc j - n * 2 ^ (low f - 1)) (2 ^ low f)
+  fold-down p n c w h =
+      sub-exact f (turnOf f x) c (restOf f m j * 2 ^ suc j) (n * 2 ^ (low f - 1)) (suc j) turn-value w h
+      (restOf f m j - steps n, ap (λ (z : ℕ). restOf f m j * 2 ^ suc j - z) (steps-is p n) ∙ times-minus (restOf f m j) (steps n) (2 ^ suc j), lt-of-le-of-lt (sub-le (restOf f m j) (steps n)) rest-lt, lt-of-le-of-lt (sub-le (restOf f m j * 2 ^ suc j) (n * 2 ^ (low f - 1))) turn-fine)
+
+  -- n / 2 above x mod 2, by at most x mod 2
+  pub fold-up : suc j < low f → (n : ℕ) (c : Float) → HasValue c false (n * 2 ^ (low f - 1)) (2 ^ low f)
+      → restOf f m j * 2 ^ suc j < n * 2 ^ (low f - 1) → n * 2 ^ (low f - 1) - restOf f m j * 2 ^ suc j ≤ restOf f m j * 2 ^ suc j
+      → HasValue (sub f (turnOf f x) c) true (n * 2 ^ (low f - 1) - restOf f m j * 2 ^ suc j) (2 ^ low f)
+  fold-up p n c w h k =
+      let e : n * 2 ^ (low f - 1) - restOf f m j * 2 ^ suc j ≡ (steps n - restOf f m j) * 2 ^ suc j = ap (λ (z : ℕ). z - restOf f m j * 2 ^ suc j) (steps-is p n) ∙ times-minus (steps n) (restOf f m j) (2 ^ suc j) in
+      sub-exact-neg f (turnOf f x) c (restOf f m j * 2 ^ suc j) (n * 2 ^ (low f - 1)) (suc j) turn-value w h
+      (steps n - restOf f m j, e, lt-of-le-of-lt (le-of-mul-le-mul-right (subst (λ (z : ℕ). z ≤ restOf f m j * 2 ^ suc j) e k) (pow-pos (suc j))) rest-lt, lt-of-le-of-lt k turn-fine)

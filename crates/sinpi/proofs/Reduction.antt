@@ -1,0 +1,121 @@
+-- x mod 2, as sinpi takes it, is not below zero, so the whole part of four times it is a natural number. Assumes nothing.
+use mathlib.Core.Path.{_≡_, refl}
+use Prim.Native.Nat.{ℕ, zero, suc, _+_, _*_, _/_, _%_, _^_, _<_, _≤_}
+use native.Mathlib.Nat.{zero-div, div-add-mod', mod-lt, mul-pos, suc-mul}
+use native.Mathlib.Omega.{arith}
+use mathlib.Core.Bool.{Bool, true, false, not, cond, true≢false}
+use lib.Dec.{T, eqb, ltb}
+use lib.IntN.{ℤ, pos, natAbs}
+use lib.Ieee.{Float, nan, inf, fin, Format, binary64, up, down, round, neg, add, sub, mul, lt, le, fits, ofBits, ofInt}
+use lib.Ieee.Fits.{down-pos, mul-fits}
+use borrow.Author.Tests.{ltb-false, le-ltb}
+use Rattle.rounding.proofs.Signed.{P, N, le→Le}
+use Rattle.rounding.proofs.Order.{le-refl}
+use Rattle.rounding.proofs.Fraction.{add-fraction}
+use Rattle.rounding.proofs.Relative.{zero+}
+use Rattle.rounding.proofs.Exact.{round-at-most, round-at-least}
+use Rattle.words.specs.F64.{bits}
+use Rattle.words.specs.Floor.{floorS, below}
+use Rattle.words.specs.Whole.{wholeS}
+use Rattle.sinpi.specs.Sinpi.{turnS}
+
+-- x is not below zero: it has no minus sign, or is a zero or a NaN
+abbrev pub NotBelow : Float → Type 0
+NotBelow x = lt x zero+ ≡ false
+
+-- ---- what is at least zero is not below it
+not-below : (x : Float) → T (le zero+ x) → NotBelow x
+unfolding le lt
+not-below nan h = refl
+not-below (inf true) h = absurd h
+not-below (inf false) h = refl
+not-below (fin false m e) h = le-ltb (m * up e * 1) (0 * down e) (omega arith)
+not-below (fin true m e) h =
+    let z : m * up e ≡ 0 = omega (arith, le→Le false 0 (pos 0) true m e h) in
+    le-ltb 0 (m * up e * 1 + 0 * down e) (omega (arith, z))
+
+-- a rounding of a fraction that is not below zero is not below zero
+round-not-below : (f : Format) (u : Bool) (q c : ℕ) → 0 < c → N u q ≤ P u q → NotBelow (round f u q c)
+unfolding fits
+round-not-below f u q c C h = not-below (round f u q c) (round-at-least f u q c false 0 (pos 0) tt C (omega arith))
+
+-- ---- floor
+floor-at-most : (f : Format) (s : Bool) (m : ℕ) (e : ℤ) → T (fits f (fin s m e)) → T (le (floorS f (fin s m e)) (fin s m e))
+unfolding floorS
+floor-at-most f s m e F = go (eqb (m * up e % down e) 0) s F
+  where
+    go : (b : Bool) (s : Bool) → T (fits f (fin s m e)) → T (le (cond b (fin s m e) (ofInt f (below s (m * up e / down e)))) (fin s m e))
+    go true s F = le-refl (fin s m e) tt
+    go false false F =
+        unfold ofInt in
+        round-at-most f false (m * up e / down e) 1 false m e F (omega arith)
+        (let a = div-add-mod' (m * up e) (down e) in omega arith)
+    go false true F =
+        unfold ofInt in
+        round-at-most f true (suc (m * up e / down e)) 1 true m e F (omega arith)
+        (let a = div-add-mod' (m * up e) (down e) in
+        let b = mod-lt (m * up e) (down-pos e) in
+        let c = suc-mul (m * up e / down e) (down e) in
+        omega arith)
+
+-- ---- a difference from what is at most as great, and a product
+sub-not-below : (f : Format) (s : Bool) (m : ℕ) (e : ℤ) (y : Float) → T (le y (fin s m e)) → NotBelow (sub f (fin s m e) y)
+unfolding sub add neg lt le
+sub-not-below f s m e nan h = absurd h
+sub-not-below f s m e (inf true) h = refl
+sub-not-below f s m e (inf false) h = absurd h
+sub-not-below f s m e (fin t n d) h =
+    let S = add-fraction f s m e (not t) n d in
+    rw (S .2) (round-not-below f (S .0) (S .1) (down e * down d) (mul-pos (down-pos e) (down-pos d))
+    (order s t (P (S .0) (S .1)) (N (S .0) (S .1)) (le→Le t n d s m e h) (S .3)))
+  where
+    order : (s t : Bool) (p q : ℕ) → P t (n * up d) * down e + N s (m * up e) * down d ≤ P s (m * up e) * down d + N t (n * up d) * down e
+        → p + (N s (m * up e) * down d + N (not t) (n * up d) * down e) ≡ q + (P s (m * up e) * down d + P (not t) (n * up d) * down e) → q ≤ p
+    order false false p q h k = omega arith
+    order false true p q h k = omega arith
+    order true false p q h k = omega arith
+    order true true p q h k = omega arith
+
+mul-not-below : (f : Format) (d : ℤ) (x : Float) → NotBelow x → NotBelow (mul f (fin false 1 d) x)
+unfolding mul lt
+mul-not-below f d nan h = refl
+mul-not-below f d (inf true) h = absurd (true≢false h)
+mul-not-below f d (inf false) h = refl
+mul-not-below f d (fin false m e) h =
+    round-not-below f false (1 * up d * (m * up e)) (down d * down e) (mul-pos (down-pos d) (down-pos e)) (omega arith)
+mul-not-below f d (fin true m e) h =
+    let z : m * up e ≡ 0 = omega (arith, ltb-false 0 (m * up e * 1 + 0 * down e) h) in
+    rw z (round-not-below f true (1 * up d * 0) (down d * down e) (mul-pos (down-pos d) (down-pos e)) (omega arith))
+
+-- x mod 2
+pub turn-not-below : (x : Float) → NotBelow (turnS x)
+unfolding turnS
+turn-not-below x =
+    let h = mul binary64 x (bits 0x3FE0000000000000) in
+    unfold ofBits in
+    mul-not-below binary64 (pos 1) (sub binary64 h (floorS binary64 h)) (part h (mul-fits binary64 x (bits 0x3FE0000000000000)))
+  where
+    part : (h : Float) → T (fits binary64 h) → NotBelow (sub binary64 h (floorS binary64 h))
+    part nan F = unfold sub add lt in refl
+    part (inf true) F = unfold sub add neg lt floorS in refl
+    part (inf false) F = unfold sub add neg lt floorS in refl
+    part (fin s m e) F = sub-not-below binary64 s m e (floorS binary64 (fin s m e)) (floor-at-most binary64 s m e F)
+
+-- ---- the whole part of what is not below zero
+whole-natural : (x : Float) → NotBelow x → wholeS x ≡ pos (natAbs (wholeS x))
+unfolding lt wholeS
+whole-natural nan h = refl
+whole-natural (inf s) h = refl
+whole-natural (fin false m e) h = go (ltb (m * up e / down e) (2 ^ 31))
+  where
+    go : (b : Bool) → cond b (pos (m * up e / down e)) (pos 0) ≡ pos (natAbs (cond b (pos (m * up e / down e)) (pos 0)))
+    go true = refl
+    go false = refl
+whole-natural (fin true m e) h =
+    let z : m * up e ≡ 0 = omega (arith, ltb-false 0 (m * up e * 1 + 0 * down e) h) in
+    rw (z, zero-div (down e)) refl
+
+-- four times a value that is not below zero has a natural number as its whole part
+pub four-natural : (x : Float) → NotBelow x → wholeS (mul binary64 (bits 0x4010000000000000) x) ≡ pos (natAbs (wholeS (mul binary64 (bits 0x4010000000000000) x)))
+unfolding ofBits
+four-natural x h = whole-natural (mul binary64 (fin false 1 (pos 2)) x) (mul-not-below binary64 (pos 2) x h)
