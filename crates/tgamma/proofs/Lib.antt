@@ -1,0 +1,4 @@
+pub mod Turns
+pub mod FactIndex
+pub mod SpecialValues
+pub mod Points

@@ -1,0 +1,2 @@
+pub mod Lanczos
+pub mod Tgamma

@@ -1,0 +1,163 @@
+// tgamma: the gamma function, by the formula of Lanczos, with the reflection below 0.
+pub mod lanczos;
+
+ghost use mathlib.Core.Path.{_≡_};
+ghost use mathlib.Core.Bool.{true};
+ghost use Prim.Native.Nat.{_≤_};
+ghost use lib.Dec.{eqb};
+ghost use lib.IntN.{natAbs};
+ghost use lib.Ieee as Ieee;
+ghost use lib.Ieee.{binary64, neg};
+ghost use Rattle.words.specs.Pick.{pick};
+ghost use Rattle.words.specs.Bits.{sizeWordS, signS};
+ghost use Rattle.words.specs.F64.{bits};
+ghost use Rattle.words.specs.Floor.{floorS};
+ghost use Rattle.words.specs.Whole.{wholeS};
+ghost use Rattle.tgamma.specs.Tgamma.{dyS, lastS, lanczosS, vanishedS, generalS, integerS, tgammaS};
+use crate::lanczos::s;
+use exp::exp;
+use pow::pow;
+use sinpi::sinpi;
+use words::bits::sign;
+use words::bits::size_word;
+use words::floor::floor;
+use words::whole::whole;
+
+const GMHALF: f64 = 5.524680040776729583740234375;
+
+const MINUS_PI: f64 = -3.141592653589793238462643383279502884;
+
+const MINUS_ZERO: f64 = -0.0;
+
+/* n! for small integer n */
+const FACT: [f64; 23] = [
+    1.0,
+    1.0,
+    2.0,
+    6.0,
+    24.0,
+    120.0,
+    720.0,
+    5040.0,
+    40320.0,
+    362880.0,
+    3628800.0,
+    39916800.0,
+    479001600.0,
+    6227020800.0,
+    87178291200.0,
+    1307674368000.0,
+    20922789888000.0,
+    355687428096000.0,
+    6402373705728000.0,
+    121645100408832000.0,
+    2432902008176640000.0,
+    51090942171709440000.0,
+    1124000727777607680000.0,
+];
+
+// |x|
+fn size(x: f64, sign: u32) -> f64
+    ensures { λ r. ⌜ r ≡ pick (eqb sign 1) (neg x) x ⌝ }
+{
+    if sign == 1 { -x } else { x }
+}
+
+// The error of x + g - 0.5.
+fn correction(absx: f64, y: f64) -> f64
+    ensures { λ r. ⌜ r ≡ dyS absx y ⌝ }
+{
+    if absx > GMHALF {
+        return y - absx - GMHALF;
+    }
+    y - GMHALF - absx
+}
+
+// The rest of the formula, from the correction of r on.
+fn last(y: f64, dy: f64, z: f64, r: f64) -> f64
+    ensures { λ r'. ⌜ r' ≡ lastS y dy z r ⌝ }
+{
+    let r = r + dy * (GMHALF + 0.5) * r / y;
+    let z = pow(y, 0.5 * z);
+    r * z * z
+}
+
+// The formula itself, for a size below 184.
+fn by_lanczos(x: f64, sign: u32) -> f64
+    ensures { λ r. ⌜ r ≡ lanczosS x sign ⌝ }
+{
+    let absx = size(x, sign);
+    let y = absx + GMHALF;
+    let dy = correction(absx, y);
+    let z = absx - 0.5;
+    let r = s(absx) * exp(-y);
+    if x < 0.0 {
+        /* reflection formula for negative x */
+        return last(y, -dy, -z, MINUS_PI / (sinpi(absx) * absx * r));
+    }
+    last(y, dy, z, r)
+}
+
+// x <= -184: tgamma(x) = +-0
+fn vanished(x: f64) -> f64
+    ensures { λ r. ⌜ r ≡ vanishedS x ⌝ }
+{
+    if floor(x) * 0.5 == floor(x * 0.5) {
+        return 0.0;
+    }
+    MINUS_ZERO
+}
+
+// What is left beside the integers up to 23 and the negative ones.
+fn general(x: f64, ix: u32, sign: u32) -> f64
+    ensures { λ r. ⌜ r ≡ generalS x ix sign ⌝ }
+{
+    if ix >= 0x4067_0000 {
+        /* |x| >= 184 */
+        if sign == 1 {
+            return vanished(x);
+        }
+        return x * f64::from_bits(0x7fe0000000000000);
+    }
+    by_lanczos(x, sign)
+}
+
+// x as usize, of a whole number from 1 to 23.
+fn number(x: f64) -> usize
+    requires { ⌜ (Ieee.eq x (floorS binary64 x) ≡ true) × (0x3C900000 ≤ sizeWordS x) × (signS binary64 x ≡ 1 → ⊥) × (Ieee.le x (bits 0x4037000000000000) ≡ true) ⌝ }
+    ensures { λ r. ⌜ (r ≡ natAbs (wholeS x)) × (1 ≤ r) × (r ≤ 23) ⌝ }
+{
+    whole(x) as usize
+}
+
+/* integer arguments */
+fn integer(x: f64, ix: u32, sign: u32) -> f64
+    requires { ⌜ (Ieee.eq x (floorS binary64 x) ≡ true) × (0x3C900000 ≤ ix) × (ix ≡ sizeWordS x) × (sign ≡ signS binary64 x) ⌝ }
+    ensures { λ r. ⌜ r ≡ integerS x ix sign ⌝ }
+{
+    if sign == 1 {
+        return 0.0 / 0.0;
+    }
+    if x <= 23.0 {
+        return FACT[number(x) - 1];
+    }
+    general(x, ix, sign)
+}
+
+pub fn tgamma(x: f64) -> f64
+    ensures { λ r. ⌜ r ≡ tgammaS x ⌝ }
+{
+    let ix = size_word(x);
+    if ix >= 0x7ff0_0000 {
+        /* tgamma(nan)=nan, tgamma(inf)=inf, tgamma(-inf)=nan */
+        return x + f64::from_bits(0x7ff0000000000000);
+    }
+    if ix < 0x3c90_0000 {
+        /* |x| < 2^-54: tgamma(x) ~ 1/x */
+        return 1.0 / x;
+    }
+    if x == floor(x) {
+        return integer(x, ix, sign(x));
+    }
+    general(x, ix, sign(x))
+}
