@@ -1,0 +1,2 @@
+-- What the distance of two answers is.
+pub mod Distance

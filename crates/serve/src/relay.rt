@@ -1,0 +1,41 @@
+// One turn of the program: what stands in the input buffer is answered, and the unread rest moves to the front.
+use stream::batch;
+ghost use mathlib.Core.Path.{_≡_};
+ghost use Prim.Native.Nat.{_+_, _≤_};
+ghost use lib.ListN.{length, take, drop};
+ghost use Rattle.serve.specs.Turn.{Turned};
+
+// Why a turn stopped, how many unread bytes it kept, and how many bytes it wrote.
+pub(crate) struct Round {
+    pub(crate) code: u8,
+    pub(crate) kept: usize,
+    pub(crate) written: usize,
+}
+
+// Moves the `count` bytes from `from` on to the front.
+fn shift(buf: &mut [u8], from: usize, count: usize)
+    requires { ⌜ from + count ≤ length (now buf) ⌝ }
+    ensures { λ _. ⌜ take count (now (buf .exit)) ≡ take count (drop from (now (buf .entry))) ⌝ }
+{
+    let mut i = 0;
+    while i < count {
+        buf[i] = buf[from + i];
+        i = i + 1;
+    }
+}
+
+// Answers the first `have` bytes of `buf` in `answers`.
+pub(crate) fn turn(buf: &mut [u8], have: usize, answers: &mut [u8]) -> Round
+    requires { ⌜ have ≤ length (now buf) ⌝ }
+    ensures { λ r. ⌜ Turned (take have (now (buf .entry))) (now (answers .entry)) r (now (buf .exit)) (now (answers .exit)) ⌝ }
+{
+    let t = batch(&buf[..have], answers);
+    let read = t.read;
+    let kept = have - read;
+    shift(buf, read, kept);
+    Round {
+        code: t.code,
+        kept,
+        written: t.written,
+    }
+}

@@ -1,0 +1,41 @@
+-- `stream::batch_rest` meets its contract: the tail from the count of bytes read on. Assumes nothing.
+use mathlib.Core.Path.{_≡_, refl, ap}
+use Prim.Native.Nat.{ℕ, _+_}
+use lib.ListN.{length}
+use Rattle.stream.specs.Kinds.{table}
+use Rattle.stream.proofs.LoopLaws.{read-in, tail}
+use borrow.Author.Needs.{needs}
+use Rattle.stream.proofs.batch_rest.Statement.{statement}
+use Rattle.stream.proofs.batch_rest.Tie as tie
+
+batch-requires : tie.Need-batch-requires
+batch-requires c κs = search needs
+
+sub-result : tie.Need-sub-result
+sub-result c =
+    let a = c .before .before .before .before .before .before .args in
+    let t = c .before .before .batch in
+    read-in table (a .requests .now) (length (a .answers .now)) (t .result .read) (t .ensures .read)
+
+part-result-start : tie.Need-part-result-start
+part-result-start c =
+    let a = c .before .before .before .before .before .before .args in
+    let t = c .before .before .batch in
+    read-in table (a .requests .now) (length (a .answers .now)) (t .result .read) (t .ensures .read)
+
+part-result-end : tie.Need-part-result-end
+part-result-end c = search needs
+
+same-length : tie.Need-same-length
+same-length c = search needs
+
+returns : tie.Need-returns
+returns c =
+    let a = c .before .before .before .before .before .before .before .args in
+    let t = c .before .before .before .batch in
+    record { tail = tail table (a .requests .now) (length (a .answers .now)) (t .result .read) (t .ensures .read); buffer = t .ensures .buffer; place = ap (λ (k : ℕ). (a .requests .ptr .0, k + a .requests .ptr .1)) (t .ensures .read) }
+
+pub batch-rest-spec : {M : Type 1} → statement M
+batch-rest-spec =
+    tie.close
+    (tie.spec batch-requires sub-result part-result-start part-result-end same-length returns)

@@ -1,0 +1,49 @@
+// The functions by bits: the argument's in, the value's out, with one pattern for a NaN.
+use words::bits::bits_of;
+use words::bits::of_bits;
+ghost use mathlib.Core.Path.{_≡_};
+ghost use lib.Ieee.{binary64};
+ghost use Rattle.tgamma.specs.Tgamma.{tgammaS};
+ghost use Rattle.erf.specs.Erf64.{erfS, erfcS};
+ghost use Rattle.lgamma.specs.Lgamma64.{lgammaS};
+ghost use Rattle.stream.specs.Kinds.{onBits, valueOnBits, signByte, signOnBits};
+
+pub fn tgamma_bits(x: u64) -> u64
+    ensures { λ r. ⌜ r ≡ onBits binary64 tgammaS x ⌝ }
+{
+    bits_of(tgamma::tgamma(of_bits(x)))
+}
+
+// A log-gamma answer by bits: the value's, and the sign byte, 1 for plus and 255 for minus.
+pub struct SignedBits {
+    pub value: u64,
+    pub sign: u8,
+}
+
+fn sign_byte(sign: i32) -> u8
+    ensures { λ r. ⌜ r ≡ signByte sign ⌝ }
+{
+    if sign > 0 { 1 } else { 255 }
+}
+
+pub fn lgamma_r_bits(x: u64) -> SignedBits
+    ensures { λ r. ⌜ (r .value ≡ valueOnBits binary64 lgammaS x) × (r .sign ≡ signOnBits binary64 lgammaS x) ⌝ }
+{
+    let t = lgamma::lgamma_r(of_bits(x));
+    SignedBits {
+        value: bits_of(t.value),
+        sign: sign_byte(t.sign),
+    }
+}
+
+pub fn erf_bits(x: u64) -> u64
+    ensures { λ r. ⌜ r ≡ onBits binary64 erfS x ⌝ }
+{
+    bits_of(erf::erf(of_bits(x)))
+}
+
+pub fn erfc_bits(x: u64) -> u64
+    ensures { λ r. ⌜ r ≡ onBits binary64 erfcS x ⌝ }
+{
+    bits_of(erf::erfc(of_bits(x)))
+}
