@@ -1,0 +1,2 @@
+-- What the contracts determine.
+pub mod Unique

@@ -1,0 +1,49 @@
+-- Each contract determines its answer: any two numbers and answer buffers that it allows for the same arguments coincide. Assumes nothing.
+use mathlib.Core.Path.{_≡_, sym, _∙_}
+use mathlib.Core.List.{List}
+use Prim.Native.Nat.{ℕ}
+use lib.IntN.{ℤ}
+use contract.Lifetimes.{Lfts}
+use denote.Ref.{now}
+use Rattle.stream.specs.Run.{Out}
+use Rattle.entries.specs.Post.{Reported}
+use Rattle.entries.proofs.rvt_tgamma.Reads as tgamma
+use Rattle.entries.proofs.rvt_lgamma_r_value.Reads as value
+use Rattle.entries.proofs.rvt_lgamma_r_sign.Reads as sign
+use Rattle.entries.proofs.rvt_erf.Reads as erf
+use Rattle.entries.proofs.rvt_erfc.Reads as erfc
+use Rattle.entries.proofs.rvt_batch_code.Reads as code
+use Rattle.entries.proofs.rvt_batch_records.Reads as records
+use Rattle.entries.proofs.rvt_batch_read.Reads as read
+use Rattle.entries.proofs.rvt_batch_written.Reads as written
+
+pub tgamma-determined : (κs : Lfts 0) (a : _) (r r' : ℕ) (s s' : _) → tgamma.Post κs a r s → tgamma.Post κs a r' s' → r ≡ r'
+tgamma-determined κs a r r' s s' p q = p ∙ sym q
+
+pub value-determined : (κs : Lfts 0) (a : _) (r r' : ℕ) (s s' : _) → value.Post κs a r s → value.Post κs a r' s' → r ≡ r'
+value-determined κs a r r' s s' p q = p ∙ sym q
+
+pub sign-determined : (κs : Lfts 0) (a : _) (r r' : ℤ) (s s' : _) → sign.Post κs a r s → sign.Post κs a r' s' → r ≡ r'
+sign-determined κs a r r' s s' p q = p ∙ sym q
+
+pub erf-determined : (κs : Lfts 0) (a : _) (r r' : ℕ) (s s' : _) → erf.Post κs a r s → erf.Post κs a r' s' → r ≡ r'
+erf-determined κs a r r' s s' p q = p ∙ sym q
+
+pub erfc-determined : (κs : Lfts 0) (a : _) (r r' : ℕ) (s s' : _) → erfc.Post κs a r s → erfc.Post κs a r' s' → r ≡ r'
+erfc-determined κs a r r' s s' p q = p ∙ sym q
+
+-- the number, and every byte of the answer buffer
+same : (o : Out) (part : Out → ℕ) (r r' : ℕ) (a b b' : List ℕ) → Reported o part r a b → Reported o part r' a b' → (r ≡ r') × (b ≡ b')
+same o part r r' a b b' p q = (p .number ∙ sym (q .number), p .buffer ∙ sym (q .buffer))
+
+pub code-determined : (κs : Lfts 2) (a : _) (r r' : ℕ) (s s' : _) → code.Post κs a r s → code.Post κs a r' s' → (r ≡ r') × (now (s .1 .0) ≡ now (s' .1 .0))
+code-determined κs a r r' s s' p q = same _ _ r r' _ (now (s .1 .0)) (now (s' .1 .0)) p q
+
+pub records-determined : (κs : Lfts 2) (a : _) (r r' : ℕ) (s s' : _) → records.Post κs a r s → records.Post κs a r' s' → (r ≡ r') × (now (s .1 .0) ≡ now (s' .1 .0))
+records-determined κs a r r' s s' p q = same _ _ r r' _ (now (s .1 .0)) (now (s' .1 .0)) p q
+
+pub read-determined : (κs : Lfts 2) (a : _) (r r' : ℕ) (s s' : _) → read.Post κs a r s → read.Post κs a r' s' → (r ≡ r') × (now (s .1 .0) ≡ now (s' .1 .0))
+read-determined κs a r r' s s' p q = same _ _ r r' _ (now (s .1 .0)) (now (s' .1 .0)) p q
+
+pub written-determined : (κs : Lfts 2) (a : _) (r r' : ℕ) (s s' : _) → written.Post κs a r s → written.Post κs a r' s' → (r ≡ r') × (now (s .1 .0) ≡ now (s' .1 .0))
+written-determined κs a r r' s s' p q = same _ _ r r' _ (now (s .1 .0)) (now (s' .1 .0)) p q

@@ -1,0 +1,2 @@
+-- What a batch entry promises.
+pub mod Post

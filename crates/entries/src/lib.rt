@@ -1,0 +1,88 @@
+// The C entries: numbers and byte slices only. A function's entry takes the argument's bits and gives the value's. Each batch entry does
+// the whole batch on the buffers that it is given, and gives one of the four numbers that the batch reports. The header is
+// include/raveltrellis.h.
+use lgamma::lgamma_r;
+use stream::batch;
+use words::bits::bits_of;
+use words::bits::of_bits;
+ghost use mathlib.Core.Path.{_≡_};
+ghost use lib.Ieee.{binary64, ofBits};
+ghost use lib.ListN.{length};
+ghost use lib.Seq.{sets};
+ghost use Rattle.tgamma.specs.Tgamma.{tgammaS};
+ghost use Rattle.lgamma.specs.Lgamma64.{lgammaS};
+ghost use Rattle.erf.specs.Erf64.{erfS, erfcS};
+ghost use Rattle.stream.specs.Kinds.{onBits, valueOnBits, batchS};
+ghost use Rattle.entries.specs.Post.{Reported};
+
+#[no_mangle]
+pub extern "C" fn rvt_tgamma(x: u64) -> u64
+    ensures { λ r. ⌜ r ≡ onBits binary64 tgammaS x ⌝ }
+{
+    stream::by_bits::tgamma_bits(x)
+}
+
+// Log-gamma's value, and below it its sign, 1 or -1.
+#[no_mangle]
+pub extern "C" fn rvt_lgamma_r_value(x: u64) -> u64
+    ensures { λ r. ⌜ r ≡ valueOnBits binary64 lgammaS x ⌝ }
+{
+    bits_of(lgamma_r(of_bits(x)).value)
+}
+
+#[no_mangle]
+pub extern "C" fn rvt_lgamma_r_sign(x: u64) -> i32
+    ensures { λ r. ⌜ r ≡ lgammaS (ofBits binary64 x) .sign ⌝ }
+{
+    lgamma_r(of_bits(x)).sign
+}
+
+#[no_mangle]
+pub extern "C" fn rvt_erf(x: u64) -> u64
+    ensures { λ r. ⌜ r ≡ onBits binary64 erfS x ⌝ }
+{
+    stream::by_bits::erf_bits(x)
+}
+
+#[no_mangle]
+pub extern "C" fn rvt_erfc(x: u64) -> u64
+    ensures { λ r. ⌜ r ≡ onBits binary64 erfcS x ⌝ }
+{
+    stream::by_bits::erfc_bits(x)
+}
+
+// The stop code.
+#[no_mangle]
+pub extern "C" fn rvt_batch_code(requests: &[u8], answers: &mut [u8]) -> u64
+    ensures { λ r. ⌜ Reported (batchS (now (requests .entry)) (now (answers .entry))) (λ o. o .code) r (now (answers .entry)) (now (answers .exit)) ⌝ }
+{
+    let t = batch(requests, answers);
+    t.code as u64
+}
+
+// How many records were answered.
+#[no_mangle]
+pub extern "C" fn rvt_batch_records(requests: &[u8], answers: &mut [u8]) -> u64
+    ensures { λ r. ⌜ Reported (batchS (now (requests .entry)) (now (answers .entry))) (λ o. o .records) r (now (answers .entry)) (now (answers .exit)) ⌝ }
+{
+    let t = batch(requests, answers);
+    t.records as u64
+}
+
+// How many bytes of the requests were read.
+#[no_mangle]
+pub extern "C" fn rvt_batch_read(requests: &[u8], answers: &mut [u8]) -> u64
+    ensures { λ r. ⌜ Reported (batchS (now (requests .entry)) (now (answers .entry))) (λ o. o .read) r (now (answers .entry)) (now (answers .exit)) ⌝ }
+{
+    let t = batch(requests, answers);
+    t.read as u64
+}
+
+// How many bytes of the answers were written.
+#[no_mangle]
+pub extern "C" fn rvt_batch_written(requests: &[u8], answers: &mut [u8]) -> u64
+    ensures { λ r. ⌜ Reported (batchS (now (requests .entry)) (now (answers .entry))) (λ o. length (o .bytes)) r (now (answers .entry)) (now (answers .exit)) ⌝ }
+{
+    let t = batch(requests, answers);
+    t.written as u64
+}
