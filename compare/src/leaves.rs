@@ -12,27 +12,56 @@ pub const NAN_F32: u32 = 0x7fc0_0000;
 /// The answer to a number that is no leaf's.
 pub const UNKNOWN: u64 = u64::MAX;
 
+// The kernels are private in libm: their files are taken as they are.
+mod k_sin {
+    include!(concat!(env!("LIBM_DIR"), "/src/math/k_sin.rs"));
+}
+
+mod k_cos {
+    include!(concat!(env!("LIBM_DIR"), "/src/math/k_cos.rs"));
+}
+
 /// A leaf of the port, as the program `leaves` numbers them.
 pub struct Leaf {
     pub number: u64,
     pub name: &'static str,
     /// The width of the argument a.
     pub width: Width,
-    /// Whether b, a word, is an argument too.
-    pub takes_word: bool,
+    /// What b is, where it is an argument too.
+    pub second: Second,
+}
+
+/// The second argument of a leaf.
+#[derive(Clone, Copy)]
+pub enum Second {
+    Nothing,
+    /// A word to set.
+    Word,
+    /// An i32, the exponent of a power of 2.
+    Exponent,
+    /// An f64.
+    Double,
+    /// An f64, of the pairs of `powers`.
+    Power,
 }
 
 const fn leaf(number: u64, name: &'static str, width: Width) -> Leaf {
-    let takes_word = number == 9 || number == 10;
+    let second = match number {
+        9 | 10 => Second::Word,
+        64 => Second::Exponent,
+        67 | 69 => Second::Double,
+        71 => Second::Power,
+        _ => Second::Nothing,
+    };
     Leaf {
         number,
         name,
         width,
-        takes_word,
+        second,
     }
 }
 
-pub const LEAVES: [Leaf; 24] = [
+pub const LEAVES: [Leaf; 37] = [
     leaf(1, "fabs", Width::Double),
     leaf(2, "floor", Width::Double),
     leaf(3, "whole", Width::Double),
@@ -57,6 +86,19 @@ pub const LEAVES: [Leaf; 24] = [
     leaf(49, "hornerf of 1", Width::Single),
     leaf(50, "hornerf of 2", Width::Single),
     leaf(51, "hornerf of 5", Width::Single),
+    leaf(64, "scalbn", Width::Double),
+    leaf(65, "exp", Width::Double),
+    leaf(66, "log", Width::Double),
+    leaf(67, "k_sin", Width::Double),
+    leaf(68, "k_sin of no tail", Width::Double),
+    leaf(69, "k_cos", Width::Double),
+    leaf(70, "sqrt", Width::Double),
+    leaf(71, "pow", Width::Double),
+    leaf(80, "erf", Width::Double),
+    leaf(81, "erfc", Width::Double),
+    leaf(82, "lgamma_r, value", Width::Double),
+    leaf(83, "lgamma_r, sign", Width::Double),
+    leaf(84, "tgamma", Width::Double),
 ];
 
 // erf.rs
@@ -130,8 +172,9 @@ fn hornerf(leaf: u64, x: f32) -> f32 {
     }
 }
 
-fn answer_double(leaf: u64, x: f64, word: u32) -> u64 {
+fn answer_double(leaf: u64, x: f64, b: u64) -> u64 {
     let bits = bits_of(x);
+    let (word, y) = (b & 0xffff_ffff, f64::from_bits(b));
     match leaf {
         1 => bits_of(libm::fabs(x)),
         2 => bits_of(libm::floor(x)),
@@ -141,9 +184,22 @@ fn answer_double(leaf: u64, x: f64, word: u32) -> u64 {
         6 => bits & 0xffff_ffff,
         7 => bits >> 63,
         8 => (bits >> 32) & 0x7fff_ffff,
-        9 => bits_of(f64::from_bits(u64::from(word) << 32 | (bits & 0xffff_ffff))),
-        10 => bits_of(f64::from_bits((bits >> 32) << 32 | u64::from(word))),
+        9 => bits_of(f64::from_bits(word << 32 | (bits & 0xffff_ffff))),
+        10 => bits_of(f64::from_bits((bits >> 32) << 32 | word)),
         16..=20 => bits_of(horner(leaf, x)),
+        64 => bits_of(libm::scalbn(x, word as i32)),
+        65 => bits_of(libm::exp(x)),
+        66 => bits_of(libm::log(x)),
+        67 => bits_of(k_sin::k_sin(x, y, 1)),
+        68 => bits_of(k_sin::k_sin(x, 0.0, 0)),
+        69 => bits_of(k_cos::k_cos(x, y)),
+        70 => bits_of(libm::sqrt(x)),
+        71 => bits_of(libm::pow(x, y)),
+        80 => bits_of(libm::erf(x)),
+        81 => bits_of(libm::erfc(x)),
+        82 => bits_of(libm::lgamma_r(x).0),
+        83 => u64::from(libm::lgamma_r(x).1 as u32),
+        84 => bits_of(libm::tgamma(x)),
         _ => UNKNOWN,
     }
 }
@@ -164,10 +220,9 @@ fn answer_single(leaf: u64, x: f32) -> u64 {
 
 /// The Rust's answer of a leaf at the arguments' bits a and b.
 pub fn answer(leaf: u64, a: u64, b: u64) -> u64 {
-    if leaf < 32 {
-        answer_double(leaf, f64::from_bits(a), b as u32)
-    } else {
-        answer_single(leaf, f32::from_bits(a as u32))
+    match leaf {
+        32..=63 => answer_single(leaf, f32::from_bits(a as u32)),
+        _ => answer_double(leaf, f64::from_bits(a), b),
     }
 }
 
@@ -189,6 +244,7 @@ pub fn answer_bytes(request: &[u8]) -> [u8; 8] {
 #[cfg(test)]
 mod tests {
     use super::*;
+    use crate::patterns::Patterns;
 
     fn double(leaf: u64, x: f64) -> u64 {
         answer(leaf, x.to_bits(), 0)
@@ -202,6 +258,14 @@ mod tests {
         assert_eq!(double(3, 2147483648.0), 0);
         assert_eq!(double(3, f64::NAN), 0);
         assert_eq!(double(3, -0.9), 0);
+    }
+
+    #[test]
+    fn the_root_is_the_machines() {
+        for &n in &Patterns::new(Width::Double).systematic {
+            let root = std::hint::black_box(f64::from_bits(n).sqrt());
+            assert_eq!(answer(70, n, 0), bits_of(root));
+        }
     }
 
     #[test]

@@ -4,15 +4,17 @@
 mod leaves;
 mod patterns;
 mod port;
+mod powers;
 mod random;
 mod sample;
 mod stream;
 mod tally;
 mod traffic;
 
-use leaves::{Leaf, LEAVES};
+use leaves::{Leaf, Second, LEAVES};
 use patterns::{Patterns, Width};
 use port::{failure, Program};
+use powers::Powers;
 use random::Random;
 use std::io::{self, Read, Write};
 use std::process::ExitCode;
@@ -73,7 +75,7 @@ fn run(words: &[&str]) -> io::Result<u8> {
             Ok(0)
         }
         ["answers"] => {
-            io::stdout().write_all(&stream::program(&input()?))?;
+            io::stdout().write_all(&stream::program(&input()?, &stream::KINDS))?;
             Ok(0)
         }
         _ => Err(failure(USAGE)),
@@ -129,8 +131,15 @@ fn compare_leaf(
 
 fn compare_leaves(seed: u64, count: u64, program: &Program) -> io::Result<u8> {
     let (doubles, singles) = (Patterns::new(Width::Double), Patterns::new(Width::Single));
+    let powers = Powers::new();
     let mut tally = Tally::default();
     for leaf in &LEAVES {
+        if let Second::Power = leaf.second {
+            let question = |place| powers.pair(place, &mut Random::at(seed, place));
+            let total = powers.systematic() + count;
+            compare_leaf(leaf, total, question, program, &mut tally)?;
+            continue;
+        }
         let patterns = match leaf.width {
             Width::Double => &doubles,
             Width::Single => &singles,
@@ -149,11 +158,7 @@ fn question(leaf: &Leaf, patterns: &Patterns, seed: u64, place: u64) -> (u64, u6
         Some(&a) => a,
         None => patterns.random(&mut random),
     };
-    let b = match leaf.takes_word {
-        true => random.word(),
-        false => 0,
-    };
-    (a, b)
+    (a, patterns.second(leaf.second, a, &mut random))
 }
 
 fn compare_all_singles(program: &Program) -> io::Result<u8> {
@@ -190,9 +195,9 @@ fn compare_streams(seed: u64, count: u64, program: &Program) -> io::Result<u8> {
 /// Compares the answers to a stream record by record, and the end behind them.
 fn compare_stream(requests: &[u8], program: &Program, tally: &mut Tally) -> io::Result<()> {
     let got = program.exchange(requests)?;
-    let want = stream::program(requests);
+    let want = stream::program(requests, &stream::PORTED);
     let (mut read, mut written) = (0, 0);
-    for _ in 0..stream::records(requests) {
+    for _ in 0..stream::records(requests, &stream::PORTED) {
         let request = &requests[read..][..1 + stream::body_length(requests[read]).unwrap()];
         let length = stream::answer_length(request[0]);
         let answer = &want[written..][..length];

@@ -1,7 +1,9 @@
 //! The arguments' patterns: both sides of every cut, every exponent, whole and half numbers, what is
 //! special, and random patterns.
 
+use crate::leaves::Second;
 use crate::random::Random;
+use std::f64::consts::FRAC_PI_4;
 
 #[derive(Clone, Copy, PartialEq)]
 pub enum Width {
@@ -9,18 +11,20 @@ pub enum Width {
     Single,
 }
 
-/// The high words that tgamma.rs, lgamma_r.rs and erf.rs test.
-const HIGH_WORDS: [u32; 20] = [
+/// The high words that tgamma.rs, lgamma_r.rs, erf.rs and exp.rs test.
+const HIGH_WORDS: [u32; 23] = [
     0x3b90_0000,
     0x3c70_0000,
     0x3c90_0000,
     0x3e30_0000,
     0x3fcd_a661,
     0x3fd0_0000,
+    0x3fd6_2e42,
     0x3fe7_6944,
     0x3feb_0000,
     0x3fec_cccc,
     0x3ff0_0000,
+    0x3ff0_a2b2,
     0x3ff3_b4c4,
     0x3ff4_0000,
     0x3ffb_b4c3,
@@ -30,8 +34,13 @@ const HIGH_WORDS: [u32; 20] = [
     0x4020_0000,
     0x403c_0000,
     0x4067_0000,
+    0x4086_232b,
     0x4390_0000,
 ];
+
+/// The high words that log.rs tests, and the one behind which its reduction goes to the next exponent.
+const LOG_WORDS: [u32; 3] = [0x0010_0000, LOG_REDUCTION, 0x7ff0_0000];
+const LOG_REDUCTION: u32 = 0x3fe6_a09e;
 
 /// The sizes that lgammaf_r.rs and erff.rs test.
 const SINGLE_CUTS: [u32; 18] = [
@@ -58,6 +67,19 @@ const SINGLE_CUTS: [u32; 18] = [
 /// The bound that tgamma.rs compares the size with.
 #[allow(clippy::excessive_precision)]
 const GMHALF: f64 = 5.524680040776729583740234375;
+
+/// The bounds that exp.rs compares with: the sizes at which an answer overflows, is subnormal and is 0.
+#[allow(clippy::excessive_precision)]
+const EXP_BOUNDS: [f64; 3] = [
+    709.782712893383973096,
+    708.39641853226410622,
+    745.13321910194110842,
+];
+
+/// Where exp.rs goes over from one multiple of ln 2 to the next: the size nearest to (k + 1/2) ln 2.
+fn between_multiples(k: u32) -> f64 {
+    (f64::from(k) + 0.5) * std::f64::consts::LN_2
+}
 
 fn power_of_two(k: i32) -> f64 {
     f64::from_bits(((1023 + k) as u64) << 52)
@@ -93,14 +115,17 @@ impl Width {
         }
     }
 
-    /// Where the functions, floor, the whole part and narrowing change their course. Behind a high
-    /// word stands its successor too, for the tests that take the word itself in.
+    /// Where the functions, floor, the whole part, narrowing, exp and log change their course, and the
+    /// end of the kernels of sine and cosine. Behind a high word stands its successor too, for the
+    /// tests that take the word itself in.
     pub fn cuts(self) -> Vec<u64> {
         let mut cuts: Vec<u64> = match self {
             Width::Double => HIGH_WORDS
                 .iter()
+                .chain(&LOG_WORDS)
                 .flat_map(|&w| [u64::from(w) << 32, u64::from(w + 1) << 32])
-                .chain([self.of(GMHALF)])
+                .chain([GMHALF, FRAC_PI_4].map(|x| self.of(x)))
+                .chain(EXP_BOUNDS.map(|x| self.of(x)))
                 .collect(),
             Width::Single => SINGLE_CUTS
                 .iter()
@@ -174,10 +199,52 @@ fn whole_and_half(width: Width) -> Vec<u64> {
     near.chain(far).map(|x| width.of(x)).collect()
 }
 
+/// Squares of whole numbers of up to 26 digits, which f64 holds.
+fn squares() -> Vec<u64> {
+    let mut random = Random::at(1, 70);
+    let any = std::iter::repeat_with(|| random.next() >> (38 + random.below(26)));
+    (1..200)
+        .chain((1 << 26) - 200..1 << 26)
+        .chain(any.take(400))
+        .map(|root| ((root * root) as f64).to_bits())
+        .collect()
+}
+
+/// The f64s whose roots lie nearest to the middle of two f64s. With q of 53 digits the middle is
+/// q + 1/2, and q^2 + q - d, where it is a multiple of 2^53, has its root next to that for a small d.
+fn halfway_roots() -> Vec<u64> {
+    let mut random = Random::at(2, 70);
+    let mut found = Vec::new();
+    for d in (-400..=400).step_by(2) {
+        for lowest in [0, 1] {
+            let value = |q: i128| q * q + q - d;
+            // one digit after the other: another digit of q changes just that digit of the value, and those above
+            let q = (1..53).fold(lowest, |q, k| q | (value(q) >> k & 1) << k);
+            if q >> 52 == 1 {
+                let digits = (value(q) >> 52) as u64;
+                let is_long = digits >> 53;
+                let exponent = 2 * random.below(1022) + 1 + is_long;
+                found.push((exponent << 52) + (digits >> is_long) - (1 << 52));
+            }
+        }
+    }
+    found
+}
+
 /// For each exponent of f32, f64s halfway between two f32s.
 fn halfway_points() -> Vec<u64> {
     (0..255u32)
         .flat_map(|e| [0, 1, 0x2a_aaaa, 0x7f_fffe, 0x7f_ffff].map(|m| halfway((e << 23) + m)))
+        .collect()
+}
+
+/// For each exponent of f64 and each subnormal one, where log's reduction goes to the next exponent.
+fn log_reductions() -> Vec<u64> {
+    let mantissa = u64::from(LOG_REDUCTION % 0x10_0000) << 32;
+    let subnormals = (1..52).map(|k| (mantissa + (1 << 52)) >> k);
+    (1..2047)
+        .map(|e| (e << 52) + mantissa)
+        .chain(subnormals)
         .collect()
 }
 
@@ -196,6 +263,10 @@ impl Patterns {
         centres.extend(whole_and_half(width));
         if width == Width::Double {
             centres.extend(halfway_points());
+            centres.extend((0..1076).map(|k| width.of(between_multiples(k))));
+            centres.extend(log_reductions());
+            centres.extend(squares());
+            centres.extend(halfway_roots());
         }
         let mut systematic = width.around(&centres);
         systematic.extend(width.specials());
@@ -208,14 +279,36 @@ impl Patterns {
         }
     }
 
-    /// A random pattern: half of them of any bits, the others where the functions change.
+    /// The argument b beside a. A number is any, or in half of the cases, as a tail of a is, up to 2^70
+    /// times smaller than a.
+    pub fn second(&self, second: Second, a: u64, random: &mut Random) -> u64 {
+        match second {
+            Second::Nothing | Second::Power => 0,
+            Second::Word => random.word(),
+            Second::Exponent => random.exponent(),
+            Second::Double if random.below(2) == 0 => self.random(random),
+            Second::Double => {
+                let mantissa = random.next() % (1 << 52);
+                let exponent = (a >> 52) % 2048;
+                let lower = exponent.saturating_sub(random.below(70));
+                (random.below(2) << 63) + (lower << 52) + mantissa
+            }
+        }
+    }
+
+    /// A random pattern: three in eight of any bits, the others where the functions change.
     pub fn random(&self, random: &mut Random) -> u64 {
         let sign_bit = self.width.sign_bit();
         let any = random.next() & (sign_bit | (sign_bit - 1));
         let sign = any & sign_bit;
         let size = any - sign;
         match random.below(8) {
-            0..=3 => any,
+            0..=2 => any,
+            // sizes up to 32, evenly
+            3 => {
+                let x = (random.next() >> 11) as f64 / power_of_two(48);
+                sign + self.width.of(x)
+            }
             // 2^-64 to 2^64
             4 => {
                 let step = 1u64 << self.width.mantissa_bits();
@@ -275,6 +368,19 @@ mod tests {
                     assert!(patterns.systematic.binary_search(&negative).is_ok());
                 }
             }
+        }
+    }
+
+    #[test]
+    fn halfway_roots_are_halfway() {
+        let roots = halfway_roots();
+        assert!(roots.len() > 300);
+        for n in roots {
+            let digits = |n: u64| i128::from(n % (1 << 52) + (1 << 52));
+            let square = digits(n) << (53 - (n >> 52) % 2);
+            let q = digits(f64::from_bits(n).sqrt().to_bits());
+            let off = (q * q + q - square).abs().min((q * q - q - square).abs());
+            assert!(off <= 400, "{n:#x}");
         }
     }
 

@@ -39,4 +39,25 @@ impl Random {
             _ => WORDS[self.below(8) as usize],
         }
     }
+
+    /// An i32 to scale by, its 32 bits: half of them where scalbn changes its course, with both
+    /// neighbours, most others where an answer is neither 0 nor infinite.
+    pub fn exponent(&mut self) -> u64 {
+        const CUTS: [i32; 8] = [
+            1023,
+            2046,
+            3069,
+            -1022,
+            -1991,
+            -2960,
+            i32::MAX - 1,
+            i32::MIN + 1,
+        ];
+        let n = match self.below(8) {
+            0..=3 => CUTS[self.below(8) as usize] - 1 + self.below(3) as i32,
+            4..=6 => self.below(6400) as i32 - 3200,
+            _ => self.next() as i32,
+        };
+        u64::from(n as u32)
+    }
 }

@@ -1,11 +1,15 @@
 //! The fixed list of requests that the program `leaves` is replayed on.
 
-use crate::leaves::{request, Leaf, LEAVES};
+use crate::leaves::{request, Leaf, Second, LEAVES};
 use crate::patterns::{Patterns, Width};
+use crate::powers::Powers;
 use crate::random::Random;
 
 /// The random patterns asked of each leaf.
 const RANDOM: usize = 40;
+
+/// The random pairs asked of pow.
+const PAIRS: usize = 400;
 
 /// Requests to every leaf: the specials and random patterns to each, the neighbours of the cuts to
 /// the leaves that look at them, and numbers that are no leaf's.
@@ -14,27 +18,51 @@ pub fn requests(seed: u64) -> Vec<[u8; 24]> {
     for leaf in &LEAVES {
         let patterns = Patterns::new(leaf.width);
         let mut random = Random::at(seed, leaf.number);
+        if let Second::Power = leaf.second {
+            let powers = Powers::new();
+            list.extend((0..PAIRS).map(|_| {
+                let (a, b) = powers.random(&mut random);
+                request(leaf.number, a, b)
+            }));
+            continue;
+        }
         let mut arguments = leaf.width.specials();
         if looks_at_cuts(leaf) {
             arguments.extend(leaf.width.around(&leaf.width.cuts()));
         }
         arguments.extend((0..RANDOM).map(|_| patterns.random(&mut random)));
         for a in arguments {
-            let b = if leaf.takes_word { random.word() } else { 0 };
+            let b = patterns.second(leaf.second, a, &mut random);
             list.push(request(leaf.number, a, b));
         }
     }
-    for number in [0, 11, 15, 21, 31, 32, 38, 47, 52, 63, 64, 255, u64::MAX] {
+    for number in [
+        0,
+        11,
+        15,
+        21,
+        31,
+        32,
+        38,
+        47,
+        52,
+        63,
+        72,
+        79,
+        82,
+        255,
+        u64::MAX,
+    ] {
         list.push(request(number, 1, 1));
     }
     list
 }
 
-/// floor, the whole part and narrowing have cuts of their own; the words of a size are what the
-/// functions test; the longest Horner sums are the functions' own.
+/// floor, the whole part, narrowing, exp, log, erf and erfc have cuts of their own; the words of a size
+/// are what the functions test; the longest Horner sums are the functions' own.
 fn looks_at_cuts(leaf: &Leaf) -> bool {
     match leaf.width {
-        Width::Double => [2, 3, 4, 8].contains(&leaf.number),
+        Width::Double => [2, 3, 4, 8, 65, 66, 80, 81].contains(&leaf.number),
         Width::Single => [34, 35, 37].contains(&leaf.number),
     }
 }

@@ -6,6 +6,9 @@ use crate::leaves::{bits_of, bits_of_f32};
 /// The kinds of the table.
 pub const KINDS: [u8; 7] = [1, 2, 3, 4, 17, 19, 20];
 
+/// Those that the port has.
+pub const PORTED: [u8; 4] = [1, 2, 3, 4];
+
 /// What a batch reports.
 #[derive(Debug, PartialEq)]
 pub struct Report {
@@ -34,10 +37,15 @@ pub fn answer_length(kind: u8) -> usize {
     }
 }
 
-/// How many whole records of known kinds stand at the front.
-pub fn records(requests: &[u8]) -> usize {
+/// The same, where only the given kinds are known.
+fn known_length(kind: u8, kinds: &[u8]) -> Option<usize> {
+    body_length(kind).filter(|_| kinds.contains(&kind))
+}
+
+/// How many whole records of the given kinds stand at the front.
+pub fn records(requests: &[u8], kinds: &[u8]) -> usize {
     let (mut count, mut at) = (0, 0);
-    while let Some(length) = requests.get(at).and_then(|&kind| body_length(kind)) {
+    while let Some(length) = requests.get(at).and_then(|&kind| known_length(kind, kinds)) {
         at += 1 + length;
         if at > requests.len() {
             break;
@@ -97,8 +105,8 @@ fn answer(kind: u8, body: &[u8]) -> Vec<u8> {
     }
 }
 
-/// Answers whole records from the front of the requests, while the answers have room.
-pub fn batch(requests: &[u8], answers: &mut [u8]) -> Report {
+/// Answers whole records of the given kinds from the front of the requests, while the answers have room.
+pub fn batch(requests: &[u8], answers: &mut [u8], kinds: &[u8]) -> Report {
     let mut report = Report {
         code: 0,
         records: 0,
@@ -106,7 +114,7 @@ pub fn batch(requests: &[u8], answers: &mut [u8]) -> Report {
         written: 0,
     };
     while let Some((&kind, rest)) = requests[report.read..].split_first() {
-        let length = match body_length(kind) {
+        let length = match known_length(kind, kinds) {
             Some(length) => length,
             None => return Report { code: 1, ..report },
         };
@@ -126,10 +134,10 @@ pub fn batch(requests: &[u8], answers: &mut [u8]) -> Report {
 }
 
 /// What the program writes: the answers, byte 255 and the stop code.
-pub fn program(requests: &[u8]) -> Vec<u8> {
+pub fn program(requests: &[u8], kinds: &[u8]) -> Vec<u8> {
     // An answer is at most 6/5 of its request.
     let mut answers = vec![0; 2 * requests.len()];
-    let report = batch(requests, &mut answers);
+    let report = batch(requests, &mut answers, kinds);
     answers.truncate(report.written);
     answers.extend([255, report.code]);
     answers
@@ -171,21 +179,21 @@ mod tests {
 
     #[test]
     fn the_whole_case() {
-        assert_eq!(program(&CASE), CASE_ANSWER);
+        assert_eq!(program(&CASE, &KINDS), CASE_ANSWER);
     }
 
     #[test]
     fn eighteen_bytes_of_room() {
         let mut answers = [7; 18];
-        assert_eq!(batch(&CASE, &mut answers), report(3, 1, 9, 9));
+        assert_eq!(batch(&CASE, &mut answers, &KINDS), report(3, 1, 9, 9));
         assert_eq!(answers[..9], CASE_ANSWER[..9]);
         assert_eq!(answers[9..], [7; 9]);
     }
 
     #[test]
     fn empty() {
-        assert_eq!(batch(&[], &mut []), report(0, 0, 0, 0));
-        assert_eq!(program(&[]), [255, 0]);
+        assert_eq!(batch(&[], &mut [], &KINDS), report(0, 0, 0, 0));
+        assert_eq!(program(&[], &KINDS), [255, 0]);
     }
 
     #[test]
@@ -201,7 +209,7 @@ mod tests {
             let written = lengths[..records].iter().sum();
             let mut answers = [0; 100];
             assert_eq!(
-                batch(&requests[..end], &mut answers),
+                batch(&requests[..end], &mut answers, &KINDS),
                 report(code, records, read, written)
             );
         }
@@ -212,20 +220,20 @@ mod tests {
         for kind in (0..=255).filter(|k| !KINDS.contains(k)) {
             let mut requests = CASE.to_vec();
             requests.push(kind);
-            assert_eq!(batch(&requests, &mut [0; 19]), report(1, 2, 18, 19));
-            assert_eq!(batch(&[kind], &mut []), report(1, 0, 0, 0));
+            assert_eq!(batch(&requests, &mut [0; 19], &KINDS), report(1, 2, 18, 19));
+            assert_eq!(batch(&[kind], &mut [], &KINDS), report(1, 0, 0, 0));
         }
         // an incomplete body before the room
-        assert_eq!(batch(&[1, 0], &mut []), report(2, 0, 0, 0));
+        assert_eq!(batch(&[1, 0], &mut [], &KINDS), report(2, 0, 0, 0));
     }
 
     #[test]
     fn never_half_an_answer() {
         let (requests, lengths) = mixed();
-        let whole = program(&requests);
+        let whole = program(&requests, &KINDS);
         for room in 0..=whole.len() {
             let mut answers = vec![7; room];
-            let got = batch(&requests, &mut answers);
+            let got = batch(&requests, &mut answers, &KINDS);
             let mut records = 0;
             while records < lengths.len() && lengths[..=records].iter().sum::<usize>() <= room {
                 records += 1;
@@ -245,11 +253,11 @@ mod tests {
     fn signs_and_nans() {
         // lgamma_r(-0) = (+inf, -1)
         let minus_zero = [2, 0, 0, 0, 0, 0, 0, 0, 0x80];
-        assert_eq!(program(&minus_zero)[7..10], [0xf0, 0x7f, 255]);
+        assert_eq!(program(&minus_zero, &KINDS)[7..10], [0xf0, 0x7f, 255]);
         // tgamma(-1) = NaN, by its one pattern
         let minus_one = [1, 0, 0, 0, 0, 0, 0, 0xf0, 0xbf];
         assert_eq!(
-            program(&minus_one)[1..9],
+            program(&minus_one, &KINDS)[1..9],
             0x7ff8_0000_0000_0000u64.to_le_bytes()
         );
     }

@@ -2,9 +2,9 @@
 
 use crate::patterns::{Patterns, Width};
 use crate::random::Random;
-use crate::stream::{body_length, KINDS};
+use crate::stream::{body_length, PORTED};
 
-/// Streams of requests of mixed kinds.
+/// Streams of requests of the kinds that the port has.
 pub struct Streams {
     doubles: Patterns,
     singles: Patterns,
@@ -21,7 +21,7 @@ impl Streams {
     /// Every kind at every systematic pattern of its width.
     pub fn systematic(&self) -> Vec<u8> {
         let mut stream = Vec::new();
-        for kind in KINDS {
+        for kind in PORTED {
             let patterns = match body_length(kind) {
                 Some(8) => &self.doubles,
                 _ => &self.singles,
@@ -37,7 +37,7 @@ impl Streams {
     pub fn random(&self, random: &mut Random, count: u64) -> Vec<u8> {
         let mut stream = Vec::new();
         for _ in 0..count {
-            let kind = KINDS[random.below(7) as usize];
+            let kind = PORTED[random.below(PORTED.len() as u64) as usize];
             let patterns = match body_length(kind) {
                 Some(8) => &self.doubles,
                 _ => &self.singles,
@@ -69,7 +69,7 @@ impl Streams {
 
 fn unknown_kind(random: &mut Random) -> u8 {
     let kind = random.next() as u8;
-    if KINDS.contains(&kind) {
+    if PORTED.contains(&kind) {
         kind + 128
     } else {
         kind

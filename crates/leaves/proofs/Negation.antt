@@ -1,4 +1,4 @@
--- What the code asks of an i32: from 0 on it is a u64, and below 0 its successor's negation is one, below 2^31. Assumes nothing.
+-- What the code asks of an i32 and its bits: from 0 on it is a u64, and below 0 its successor's negation is one, below 2^31; and back. Assumes nothing.
 use Prim.Native.Nat.{ℕ, zero, suc, _^_, _<_, zero-le}
 use native.Mathlib.Omega.{arith}
 use mathlib.Core.Path.{_≡_, refl, sym, ap, _∙_, subst}
@@ -50,3 +50,11 @@ below (negsuc n) f e =
 pub above : (z : ℤ) → SFits w32 z → leZ (pos 0) z ≡ true → T (nonNeg z) × Fits w64 (natAbs z)
 above (pos n) f e = (tt, record { fits = omega (arith, f .sfits) })
 above (negsuc n) f e = absurd (subst T (sym e) tt)
+
+-- -1 - n, for an n below 2 ^ 31
+pub under : (n : ℕ) → n < 2 ^ 31 → SFits w32 (negsuc 0 -ℤ toZ w32 n)
+under n h = rw (toZ-ofZ w32 (pos n) (record { sfits = h })) (fit n h)
+  where
+    fit : (n : ℕ) → n < 2 ^ 31 → SFits w32 (negsuc 0 -ℤ pos n)
+    fit zero h = record { sfits = lit< tt }
+    fit (suc n) h = record { sfits = omega arith }

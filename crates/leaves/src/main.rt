@@ -10,12 +10,31 @@
 // 34 floorf        37 size_bits
 // 35 wholef
 // 48 to 51 hornerf at a, over no coefficient, the first, the first two and all of erff's PP
+// 64 scalbn(a, b), b an i32
+// 65 exp
+// 66 log            68 k_sin(a, 0, 0)
+// 67 k_sin(a, b, 1) 69 k_cos(a, b)
+// 70 sqrt          71 pow(a, b)
+// 80 erf           81 erfc
+// 82 lgamma_r's value  83 lgamma_r's sign
+// 84 tgamma
 //
 // An argument or an answer of 32 bits is the low half of its u64, and an i32 is its two's complement.
+use erf::erf;
+use erf::erfc;
+use exp::exp;
+use lgamma::lgamma_r;
 use libc::STDIN_FILENO;
 use libc::STDOUT_FILENO;
+use log::log;
 use poly::horner;
 use poly::hornerf;
+use pow::pow;
+use scalbn::scalbn;
+use sqrt::sqrt;
+use tgamma::tgamma;
+use trig::k_cos;
+use trig::k_sin;
 use words::bits::bits_of;
 use words::bits::bits_of_f32;
 use words::bits::get_high_word;
@@ -88,6 +107,14 @@ fn pattern(k: i32) -> u64 {
     0xffff_ffff - ((0 - (k + 1)) as u64)
 }
 
+// The whole number of 32 bits.
+fn of_pattern(w: u32) -> i32 {
+    if w < 0x8000_0000 {
+        return w as i32;
+    }
+    -1 - ((0xffff_ffff - w) as i32)
+}
+
 fn number_leaf(leaf: u64, x: f64) -> u64 {
     match leaf {
         1 => bits_of(fabs(x)),
@@ -142,6 +169,43 @@ fn horner_leaf_f32(leaf: u64, x: f32) -> u64 {
     }
 }
 
+fn power_leaf(leaf: u64, x: f64, n: i32) -> u64 {
+    match leaf {
+        64 => bits_of(scalbn(x, n)),
+        65 => bits_of(exp(x)),
+        _ => UNKNOWN,
+    }
+}
+
+fn function_leaf(leaf: u64, x: f64, y: f64) -> u64 {
+    match leaf {
+        66 => bits_of(log(x)),
+        67 => bits_of(k_sin(x, y, 1)),
+        68 => bits_of(k_sin(x, 0.0, 0)),
+        69 => bits_of(k_cos(x, y)),
+        70 => bits_of(sqrt(x)),
+        71 => bits_of(pow(x, y)),
+        _ => UNKNOWN,
+    }
+}
+
+fn error_leaf(leaf: u64, x: f64) -> u64 {
+    match leaf {
+        80 => bits_of(erf(x)),
+        81 => bits_of(erfc(x)),
+        _ => UNKNOWN,
+    }
+}
+
+fn gamma_leaf(leaf: u64, x: f64) -> u64 {
+    match leaf {
+        82 => bits_of(lgamma_r(x).value),
+        83 => pattern(lgamma_r(x).sign),
+        84 => bits_of(tgamma(x)),
+        _ => UNKNOWN,
+    }
+}
+
 fn low_half(x: u64) -> u32 {
     (x % 0x1_0000_0000) as u32
 }
@@ -160,7 +224,19 @@ fn answer(leaf: u64, a: u64, b: u64) -> u64 {
     if leaf < 48 {
         return number_leaf_f32(leaf, of_bits_f32(low_half(a)));
     }
-    horner_leaf_f32(leaf, of_bits_f32(low_half(a)))
+    if leaf < 64 {
+        return horner_leaf_f32(leaf, of_bits_f32(low_half(a)));
+    }
+    if leaf < 66 {
+        return power_leaf(leaf, of_bits(a), of_pattern(low_half(b)));
+    }
+    if leaf < 80 {
+        return function_leaf(leaf, of_bits(a), of_bits(b));
+    }
+    if leaf < 82 {
+        return error_leaf(leaf, of_bits(a));
+    }
+    gamma_leaf(leaf, of_bits(a))
 }
 
 fn wide(x: u8) -> u64
