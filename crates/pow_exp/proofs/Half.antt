@@ -1,6 +1,6 @@
 -- n = [z + 0.5] by the high word j of a z from 0.5 to 1075 in size: what is added and shifted stays within a word. Assumes nothing.
 use Prim.Native.Nat.{ℕ, _+_, _-_, _*_, _/_, _%_, _^_, _≤_, _<_}
-use mathlib.Core.Path.{_≡_, refl, sym, ap, _∙_, subst}
+use mathlib.Core.Path.{_≡_, refl, ap}
 use mathlib.Core.Bool.{Bool, true, false}
 use native.Mathlib.Omega.{arith}
 use native.Mathlib.Nat.{div-le-self, div-mul-le-self, mod-eq-of-lt, lt-of-le-of-lt, one-le-pow, pow-le-pow-right, le-div-iff-mul-le}

@@ -1,11 +1,11 @@
 -- What the functions of `pow_exp` give, over plain values. Assumes nothing.
 use Prim.Native.Nat.{ℕ, zero, suc, _+_, _-_, _*_, _/_, _%_, _^_, _≤_, _<_}
-use mathlib.Core.Path.{_≡_, refl, sym, ap, _∙_, subst}
+use mathlib.Core.Path.{_≡_, refl, ap, _∙_, subst}
 use native.Mathlib.Omega.{arith}
 use lib.IntN.{ℤ, pos, negℤ}
 use lib.Ieee.{Float, binary64}
 use borrow.Author.Tests.{le-leb, lt-leb, lt-ltb, le-ltb}
-use Rattle.words.specs.F64.{_⊕_, _⊖_, _⊗_, _⊘_, bits}
+use Rattle.words.specs.F64.{_⊖_, _⊗_, bits}
 use Rattle.words.specs.Bits.{highWordS, withHighWordS}
 use Rattle.scalbn.specs.Scalbn.{scalbnS}
 use Rattle.pow_exp.specs.Exp2.{word, fractionS, scaledS, exp2S}

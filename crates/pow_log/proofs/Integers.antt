@@ -1,19 +1,15 @@
 -- The signed numbers of `pow`: differences of small naturals, as i32 locals hold them. Assumes nothing.
-use Prim.Native.Nat.{ℕ, zero, suc, _+_, _-_, _*_, _^_, _≤_, _<_}
-use mathlib.Core.Path.{_≡_, refl, sym, ap, _∙_, subst}
+use Prim.Native.Nat.{ℕ, zero, suc, _+_, _-_, _≤_, _<_}
+use mathlib.Core.Path.{_≡_, sym, ap, _∙_, subst}
 use mathlib.Core.Bool.{Bool, true, false, cond}
 use native.Mathlib.Omega.{arith}
 use lib.Dec.{ltb}
-use lib.IntN.{ℤ, pos, negsuc, negℤ, subℕ, _+ℤ_, _-ℤ_, +ℤ-assoc, +ℤ-comm, +ℤ-idl, -ℤ-+ℤ-cancel}
+use lib.IntN.{ℤ, pos, negsuc, negℤ, _+ℤ_, _-ℤ_, +ℤ-assoc, +ℤ-comm, +ℤ-idl, -ℤ-+ℤ-cancel}
 use lib.Signed.{mag}
 use mir.Syntax.{w32}
 use mir.Val.{SFits, toZ, ofZ}
 use mir.ValLaws.{toZ-ofZ}
 use borrow.Author.Tests.{lt-ltb}
-
--- an i32 holds what was put in it
-pub held : (k : ℤ) → SFits w32 k → toZ w32 (ofZ w32 k) ≡ k
-held k f = toZ-ofZ w32 k f
 
 -- a u32 below 2 ^ 31, as an i32
 pub small : (n : ℕ) → n < 0x80000000 → toZ w32 n ≡ pos n
@@ -37,7 +33,7 @@ module _ (a b : ℕ) (h : a ≤ 0x200000) (k : b ≤ 0x200000) where
 
   -- a - b, worked out in i32
   pub held-difference : toZ w32 (ofZ w32 (toZ w32 a -ℤ toZ w32 b)) ≡ pos a -ℤ pos b
-  held-difference = held _ fits-difference ∙ difference
+  held-difference = toZ-ofZ w32 _ fits-difference ∙ difference
 
 -- (a - b) + (e - a) and (e - b) + 1
 pub through : (a b e : ℤ) → (a -ℤ b) +ℤ (e -ℤ a) ≡ e -ℤ b

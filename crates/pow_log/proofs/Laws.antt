@@ -1,15 +1,15 @@
 -- What the functions of `pow_log` give, over plain values. Assumes nothing.
 use Prim.Native.Nat.{ℕ, _+_, _-_, _*_, _/_, _%_, _^_, _≤_, _<_}
-use mathlib.Core.Path.{_≡_, refl, sym, ap, _∙_, subst}
+use mathlib.Core.Path.{_≡_}
 use native.Mathlib.Omega.{arith}
-use lib.IntN.{ℤ, pos, _+ℤ_, _-ℤ_}
+use lib.IntN.{ℤ, pos, _-ℤ_}
 use lib.Ieee.{Float, binary64, ofInt}
 use borrow.Author.Tests.{le-leb, lt-leb, lt-ltb, le-ltb}
 use Rattle.words.specs.F64.{_⊕_, _⊖_, _⊗_, _⊘_, bits}
 use Rattle.words.specs.Bits.{withHighWordS, withLowWordS}
 use Rattle.poly.specs.Horner.{hornerS}
 use Rattle.pow_log.specs.declared.Parts.{Parts}
-use Rattle.pow_log.specs.Log2.{L, CP, CP·H, CP·L, DP·H, DP·L, BP, seriesS, intervalS, normalS}
+use Rattle.pow_log.specs.Log2.{L, CP, CP·H, CP·L, DP·H, DP·L, seriesS, intervalS, normalS}
 use Rattle.pow_log.proofs.Integers.{through, one-more}
 
 pub series :

@@ -1,6 +1,7 @@
 -- The first half of the Rust's pow.rs: t1 and t2, which together are log2 of ax, in rounded operations of f64.
--- A name's `_` is written `·`. ax is the size of x, and ix the high word of ax. An i32 that is never negative, as ix, j and k, is a natural number here: a mask or a
--- shift of it is `%` or `/` by a power of 2, and `|` with a bit that is not set is `+`. n, which can be negative, is an integer.
+-- A name's `_` is written `·`. ax is the size of x, and ix the high word of ax. An i32 that is never negative, as ix, j and k, is a
+-- natural number here: a mask or a shift of it is `%` or `/` by a power of 2, and `|` with a bit that is not set is `+`. n, which can be
+-- negative, is an integer.
 use Prim.Native.Nat.{ℕ, _+_, _-_, _*_, _/_, _%_, _^_}
 use mathlib.Core.List.{List, [], _∷_}
 use lib.IntN.{ℤ, pos, negℤ, _+ℤ_, _-ℤ_}

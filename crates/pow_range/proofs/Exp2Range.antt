@@ -1,14 +1,13 @@
 -- In `exp2S`, for p_l and p_h of at most 900 in size together: the power of 2 that is left when n is taken off lies from 1/4 to 4, where
 -- |z| is above 1/2 (`far-range`) and where it is not (`near-range`), and n is at most 902 (`n-le`). Assumes nothing.
-use Prim.Native.Nat.{ℕ, zero, suc, _+_, _-_, _*_, _/_, _%_, _^_, _≤_, _<_}
-use mathlib.Core.Path.{_≡_, refl, sym, ap, _∙_, subst}
+use Prim.Native.Nat.{ℕ, _+_, _*_, _/_, _%_, _^_, _≤_, _<_}
+use mathlib.Core.Path.{_≡_, refl, sym, subst}
 use mathlib.Core.Bool.{Bool, true, false}
 use native.Mathlib.Omega.{arith}
 use native.Mathlib.Nat.{lt-of-le-of-lt, le-trans, le-of-lt, mul-le-mul-right, lt-of-not-le, not-le-of-lt, le-of-eq, le-of-mul-le-mul-right}
 use lib.Pow.{pow-pos, pow-add}
-use lib.IntN.{ℤ}
 use lib.Dec.{T, lit<}
-use lib.Ieee.{Float, nan, inf, fin, binary64, top, toBits, ofBits, fits, neg}
+use lib.Ieee.{Float, nan, inf, fin, binary64, top, toBits, fits}
 use lib.Ieee.Bits.{ofBits-toBits}
 use lib.Ieee.Exact.{HasValue}
 use lib.Ieee.Fits.{add-fits}
@@ -23,7 +22,7 @@ use Rattle.pow_exp.specs.Exp2.{fractionS}
 use Rattle.pow_exp.proofs.Half.{amount}
 use Rattle.pow_range.proofs.FractionRange.{quarter, four, fraction-range}
 use Rattle.pow_range.proofs.NValue.{last, slack, z-near, tOfWord, t-plus, t-minus}
-use Rattle.pow_range.proofs.Reduced.{unique, value-le, sum-near, NearDifference, difference-near, size-of-difference, small-parts}
+use Rattle.pow_range.proofs.Reduced.{unique, value-le, sum-near, difference-near, size-of-difference, small-parts}
 
 -- ---- the words of a value
 

@@ -1,16 +1,16 @@
 -- `exp2S` with the sign 1 is no NaN and carries no minus sign, for p_l and p_h of at most 900 in size together: `exp2-plus`. Assumes nothing.
 use Prim.Native.Nat.{ℕ, zero, suc, _+_, _-_, _*_, _/_, _%_, _^_, _≤_, _<_, zero-le}
-use mathlib.Core.Path.{_≡_, refl, sym, ap, _∙_, subst}
+use mathlib.Core.Path.{_≡_, refl, sym, ap, subst}
 use mathlib.Core.Bool.{Bool, true, false}
 use native.Mathlib.Omega.{arith}
-use native.Mathlib.Nat.{le-trans, le-of-eq, mod-lt}
+use native.Mathlib.Nat.{mod-lt}
 use lib.IntN.{ℤ, pos, negsuc, negℤ}
-use lib.Dec.{T, lit<, ltb, leb}
-use lib.Ieee.{Float, nan, inf, fin, binary64, up, down, toBits, ofBits, fits, le, mul, sub, round}
+use lib.Dec.{T, lit<, leb}
+use lib.Ieee.{Float, nan, inf, fin, binary64, up, down, toBits, ofBits, fits, le, mul}
 use lib.Ieee.Bits.{ofBits-toBits}
 use lib.Ieee.Exact.{HasValue}
 use lib.Ieee.Fits.{down-pos, sub-fits}
-use borrow.Author.Tests.{le-leb, lt-leb, lt-ltb, le-ltb, leb-true, leb-false}
+use borrow.Author.Tests.{lt-leb, le-ltb, leb-true, leb-false}
 use Rattle.rounding.proofs.Signed.{Signed, signed-of-le, round-signed}
 use Rattle.rounding.proofs.BitOrder.{bitVal, endless, bits-val, le-bits, toBits-under}
 use Rattle.rounding.proofs.Order.{between-finite}

@@ -5,9 +5,8 @@ use mathlib.Core.List.{[], _∷_}
 use lib.IntN.{pos, negsuc}
 use lib.Dec.{T}
 use lib.Ieee.{Float, fin, binary64, add, sub, mul, div, le, neg, ofBits}
-use lib.Ieee.Scale.{finite}
 use Rattle.rounding.proofs.Order.{between-finite}
-use Rattle.rounding.proofs.Interval.{Interval, some}
+use Rattle.rounding.proofs.Interval.{some}
 use Rattle.rounding.proofs.Range.{Expr, var, con, plus, minus, times, over, share, eval, ieval, In, halvedTest, halved}
 use Rattle.words.specs.F64.{_⊕_, _⊖_, bits}
 use Rattle.words.specs.Bits.{withLowWordS}

@@ -1,21 +1,20 @@
 -- The logarithm's parts t1 and t2 by intervals, on cells of the high word: `cells-range`. Assumes nothing.
-use Prim.Native.Nat.{ℕ, zero, suc, _+_, _-_, _*_, _/_, _%_, _^_, _≤_, _<_}
-use mathlib.Core.Path.{_≡_, refl, sym, ap, _∙_, subst}
+use Prim.Native.Nat.{ℕ, zero, suc, _+_, _*_, _/_, _^_, _≤_, _<_}
+use mathlib.Core.Path.{_≡_, refl, ap, _∙_, subst}
 use mathlib.Core.Bool.{Bool, true, false}
 use mathlib.Core.List.{[], _∷_}
 use native.Mathlib.Omega.{arith}
 use native.Mathlib.Nat.{lt-of-le-of-lt, zero-mul, suc-mul, add-comm}
-use lib.Dec.{T, lit<, ltb}
-use lib.Ieee.{Float, binary64, add, sub, mul, div, le, ofBits}
+use lib.Dec.{T, ltb}
+use lib.Ieee.{Float, binary64, le}
 use lib.Ieee.Scale.{finite}
 use borrow.Author.Tests.{ltb-true, ltb-false}
 use Rattle.rounding.proofs.Signed.{value-finite}
 use Rattle.rounding.proofs.BitOrder.{bitVal, endless, bits-val, bits-le}
 use Rattle.rounding.proofs.Interval.{some}
-use Rattle.rounding.proofs.Range.{Expr, var, con, plus, minus, times, over, share, clear, eval, ieval, In, rangeTest, range}
+use Rattle.rounding.proofs.Range.{Expr, var, con, plus, minus, times, over, share, clear, eval, In, rangeTest, range}
 use Rattle.words.specs.F64.{bits}
 use Rattle.poly.specs.Horner.{hornerS}
-use Rattle.pow_log.specs.declared.Parts.{Parts}
 use Rattle.pow_log.specs.Log2.{CP, CP·H, CP·L, seriesS}
 use Rattle.pow_range.proofs.ProductSign.{y1-is}
 
@@ -97,7 +96,8 @@ cell-range e K t lo hi w v ix l c F R a b k m n =
     range binary64 lo hi e (some (at (w / 2 + K)) (at (v / 2 + K)) ∷ some t t ∷ []) (at (ix / 2 + K) ∷ t ∷ []) (at w) (at v) (bits (ix * 0x100000000 + l)) c
     ((bits-finite ((w / 2 + K) * 0x100000000) (omega arith), bits-finite ((v / 2 + K) * 0x100000000) (omega arith), j .0, j .1), ((F, F, R, R), tt)) i
 
-both : (b c : Bool) → T (elim b [ true ↦ c | false ↦ false ]) → T b × T c
+-- a test that passed, and those after it
+pub both : (b c : Bool) → T (elim b [ true ↦ c | false ↦ false ]) → T b × T c
 both true c h = (tt, h)
 both false c h = absurd h
 

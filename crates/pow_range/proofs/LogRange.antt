@@ -1,24 +1,24 @@
 -- t1 lies from -8 to 8 and t2 from -1 to 1, for an x whose high word is from 0x40100000 to 0x4067C000: `log-range`. Assumes nothing.
-use Prim.Native.Nat.{ℕ, zero, suc, _+_, _-_, _*_, _/_, _%_, _^_, _≤_, _<_}
+use Prim.Native.Nat.{ℕ, _+_, _-_, _*_, _/_, _%_, _^_, _≤_, _<_}
 use mathlib.Core.Path.{_≡_, refl, sym, ap, _∙_, subst}
 use mathlib.Core.Bool.{Bool, true, false}
 use native.Mathlib.Omega.{arith}
 use native.Mathlib.Nat.{mod-lt}
-use lib.IntN.{ℤ, pos, _+ℤ_, _-ℤ_}
+use lib.IntN.{ℤ, pos, _+ℤ_, _-ℤ_, +ℤ-idl}
 use lib.Dec.{T, lit<, ltb, leb}
-use lib.Ieee.{Float, binary64, le, neg, toBits, ofBits, ofInt}
+use lib.Ieee.{Float, binary64, le, neg, toBits, ofInt}
 use lib.Ieee.Scale.{finite}
-use borrow.Author.Tests.{le-leb, lt-leb, lt-ltb, le-ltb, leb-true, leb-false, ltb-true, ltb-false}
+use borrow.Author.Tests.{le-ltb, leb-true, leb-false, ltb-true, ltb-false}
 use Rattle.rounding.proofs.Range.{In}
 use Rattle.words.specs.F64.{bits}
 use Rattle.words.specs.Bits.{lowWordS, withHighWordS}
 use Rattle.pow_log.specs.declared.Parts.{Parts}
 use Rattle.pow_log.specs.Log2.{BP, DP·H, DP·L, seriesS, intervalS, normalS, log2S}
+use Rattle.scalbn.proofs.Exponents.{sub-above}
 use Rattle.pow_range.proofs.NValue.{no-low-word}
 use Rattle.pow_range.proofs.ProductSign.{one1, eight}
 use Rattle.pow_range.proofs.LogCells.{t1E, t2E, t1-is, t2-is, at, cells, cells-range}
-use Rattle.pow_range.proofs.LogTests as tests
-use Rattle.pow_range.proofs.LogTests.{number, low-t1, low-t2, middle-t1, middle-t2, high-t1, high-t2}
+use Rattle.pow_range.proofs.LogTests.{number, Tests, tests}
 
 -- what is wanted of t1 and t2
 abbrev pub Small : Parts → Type 0
@@ -50,19 +50,15 @@ module _ (ax : Float) (k K : ℕ) (n : ℕ) (F : T (finite (number n))) (R : T (
             (cells-range (t2E (BP k) (DP·H k) (DP·L k)) K t (neg one1) one1 d' c' w ix (lowWordS ax) q F R a b' l m' room),
       )
 
--- the tests of one n
-abbrev Tests : ℕ → Type 0
-Tests n = T (finite (number n)) × T (le (number n) (number n)) × T (low-t1 n) × T (low-t2 n) × T (middle-t1 n) × T (middle-t2 n) × T (high-t1 n) × T (high-t2 n)
-
 module _ (ax : Float) (n : ℕ) (p : Tests n) (j : ℕ) where
   low-range : j ≤ 0x3988E → Small (intervalS ax (j + 0x3FF00000) 0 (pos n))
-  low-range h = from-tests ax 0 0x20080000 n (p .0) (p .1) (j + 0x3FF00000) (omega arith) (omega arith) 0xE624 4 0x996E 6 0x3FF00000 (omega arith) (omega arith) (omega arith) (omega arith) (omega arith) (p .2) (p .3)
+  low-range h = from-tests ax 0 0x20080000 n (p .finite-n) (p .le-n) (j + 0x3FF00000) (omega arith) (omega arith) 0xE624 4 0x996E 6 0x3FF00000 (omega arith) (omega arith) (omega arith) (omega arith) (omega arith) (p .low1) (p .low2)
 
   middle-range : 0x3988E < j → j < 0xBB67A → Small (intervalS ax (j + 0x3FF00000) 1 (pos n))
-  middle-range h k = from-tests ax 1 0x200C0000 n (p .0) (p .1) (j + 0x3FF00000) (omega arith) (omega arith) 0xAD29 12 0x15A52 6 0x3FF3988F (omega arith) (omega arith) (omega arith) (omega arith) (omega arith) (p .4) (p .5)
+  middle-range h k = from-tests ax 1 0x200C0000 n (p .finite-n) (p .le-n) (j + 0x3FF00000) (omega arith) (omega arith) 0xAD29 12 0x15A52 6 0x3FF3988F (omega arith) (omega arith) (omega arith) (omega arith) (omega arith) (p .middle1) (p .middle2)
 
   high-range : 0xBB67A ≤ j → j < 0x100000 → Small (intervalS ax (j + 0x3FF00000 - 0x00100000) 0 (pos n))
-  high-range h k = from-tests ax 0 0x20080000 n (p .0) (p .1) (j + 0x3FF00000 - 0x00100000) (omega arith) (omega arith) 0x11262 4 0xB6EC 6 0x3FEBB67A (omega arith) (omega arith) (omega arith) (omega arith) (omega arith) (p .6) (p .7)
+  high-range h k = from-tests ax 0 0x20080000 n (p .finite-n) (p .le-n) (j + 0x3FF00000 - 0x00100000) (omega arith) (omega arith) 0x11262 4 0xB6EC 6 0x3FEBB67A (omega arith) (omega arith) (omega arith) (omega arith) (omega arith) (p .high1) (p .high2)
 
 -- x is counted with 2 ^ n, where its exponent's field is n more than that of 1
 normal-small : (ax : Float) (ix n : ℕ) → Tests n → (0xBB67A ≤ ix % 0x100000 → Tests (n + 1)) → pos 0 +ℤ (pos (ix / 0x100000) -ℤ pos 0x3FF) ≡ pos n → Small (normalS ax ix (pos 0))
@@ -76,48 +72,14 @@ normal-small ax ix n p q e = go (leb (ix % 0x100000) 0x3988E) refl (ltb (ix % 0x
         let h = ltb-false (ix % 0x100000) 0xBB67A f in
         simp (a, f, e) (high-range ax (n + 1) (q h) (ix % 0x100000) h (mod-lt ix (lit< tt)))
 
-two : Tests 2
-unfolding ofInt le
-two = (tt, tt, tests.low-t1-2, tests.low-t2-2, tests.middle-t1-2, tests.middle-t2-2, tests.high-t1-2, tests.high-t2-2)
-
-three : Tests 3
-unfolding ofInt le
-three = (tt, tt, tests.low-t1-3, tests.low-t2-3, tests.middle-t1-3, tests.middle-t2-3, tests.high-t1-3, tests.high-t2-3)
-
-four : Tests 4
-unfolding ofInt le
-four = (tt, tt, tests.low-t1-4, tests.low-t2-4, tests.middle-t1-4, tests.middle-t2-4, tests.high-t1-4, tests.high-t2-4)
-
-five : Tests 5
-unfolding ofInt le
-five = (tt, tt, tests.low-t1-5, tests.low-t2-5, tests.middle-t1-5, tests.middle-t2-5, tests.high-t1-5, tests.high-t2-5)
-
-six : Tests 6
-unfolding ofInt le
-six = (tt, tt, tests.low-t1-6, tests.low-t2-6, tests.middle-t1-6, tests.middle-t2-6, tests.high-t1-6, tests.high-t2-6)
-
-seven : Tests 7
-unfolding ofInt le
-seven = (tt, tt, tests.low-t1-7, tests.low-t2-7, tests.middle-t1-7, tests.middle-t2-7, tests.high-t1-7, tests.high-t2-7)
-
--- by the exponent's field, from that of 4 on
-by-field : (ax : Float) (ix i : ℕ) → ix / 0x100000 ≡ 0x401 + i → ix ≤ 0x4067C000 → Small (normalS ax ix (pos 0))
-by-field ax ix zero e h = normal-small ax ix 2 two (λ k. three) (ap (λ (f : ℕ). pos 0 +ℤ (pos f -ℤ pos 0x3FF)) e)
-by-field ax ix (suc zero) e h = normal-small ax ix 3 three (λ k. four) (ap (λ (f : ℕ). pos 0 +ℤ (pos f -ℤ pos 0x3FF)) e)
-by-field ax ix (suc (suc zero)) e h = normal-small ax ix 4 four (λ k. five) (ap (λ (f : ℕ). pos 0 +ℤ (pos f -ℤ pos 0x3FF)) e)
-by-field ax ix (suc (suc (suc zero))) e h = normal-small ax ix 5 five (λ k. six) (ap (λ (f : ℕ). pos 0 +ℤ (pos f -ℤ pos 0x3FF)) e)
-by-field ax ix (suc (suc (suc (suc zero)))) e h = normal-small ax ix 6 six (λ k. seven) (ap (λ (f : ℕ). pos 0 +ℤ (pos f -ℤ pos 0x3FF)) e)
-by-field ax ix (suc (suc (suc (suc (suc zero))))) e h = normal-small ax ix 7 seven (λ k. absurd (none ix e h k)) (ap (λ (f : ℕ). pos 0 +ℤ (pos f -ℤ pos 0x3FF)) e)
-  where
-    none : (ix : ℕ) → ix / 0x100000 ≡ 0x401 + 5 → ix ≤ 0x4067C000 → 0xBB67A ≤ ix % 0x100000 → ⊥
-    none ix e h k = omega arith
-by-field ax ix (suc (suc (suc (suc (suc (suc i)))))) e h = absurd (none ix i e h)
-  where
-    none : (ix i : ℕ) → ix / 0x100000 ≡ 0x401 + suc (suc (suc (suc (suc (suc i))))) → ix ≤ 0x4067C000 → ⊥
-    none ix i e h = omega arith
+-- the exponent of a field from that of 1 on
+exponent-is : (e : ℕ) → 0x3FF ≤ e → pos 0 +ℤ (pos e -ℤ pos 0x3FF) ≡ pos (e - 0x3FF)
+exponent-is e h = +ℤ-idl (pos e -ℤ pos 0x3FF) ∙ sub-above e 0x3FF h
 
 pub log-range : (ax : Float) (ix : ℕ) → 0x40100000 ≤ ix → ix ≤ 0x4067C000 → Small (log2S ax ix)
 unfolding log2S
 log-range ax ix a b =
-    let e : ix / 0x100000 ≡ 0x401 + (ix / 0x100000 - 0x401) = omega arith in
-    simp (le-ltb ix 0x100000 (omega arith)) (by-field ax ix (ix / 0x100000 - 0x401) e b)
+    let n = ix / 0x100000 - 0x3FF in
+    simp (le-ltb ix 0x100000 (omega arith))
+    (normal-small ax ix n (tests n (omega arith) (omega arith)) (λ (h : 0xBB67A ≤ ix % 0x100000). tests (n + 1) (omega arith) (omega arith))
+    (exponent-is (ix / 0x100000) (omega arith)))

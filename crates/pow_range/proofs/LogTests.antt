@@ -1,17 +1,21 @@
--- t1 lies from -8 to 8 and t2 from -1 to 1, for an x from 4 to below 256: the cells' tests. Assumes nothing.
-use Prim.Native.Nat.{ℕ, zero, suc, _+_, _-_, _*_, _/_, _%_, _^_, _≤_, _<_}
-use mathlib.Core.Path.{_≡_, refl, sym, ap, _∙_, subst}
-use mathlib.Core.Bool.{Bool, true, false}
+-- t1 lies from -8 to 8 and t2 from -1 to 1, for an x from 4 to below 256: a computed test for each of the three intervals and each n from
+-- 2 to 7, and `tests`, which takes them apart. Assumes nothing.
+use Prim.Native.Nat.{ℕ, zero, suc, _+_, _≤_, _<_}
+use mathlib.Core.Path.{subst}
+use mathlib.Core.Bool.{Bool, true, false, _&&_}
+use mathlib.Core.Logic.{inl, inr}
+use native.Mathlib.Nat.{eq-or-lt-of-le}
+use lib.Ieee.Fits.{and-l, and-r}
 use native.Mathlib.Omega.{arith}
 use lib.IntN.{pos}
 use lib.Dec.{T}
 use lib.Ieee.{Float, binary64, add, sub, mul, div, le, neg, fits, ofBits, toBits, ofInt}
 use lib.Ieee.Scale.{finite}
 use Rattle.rounding.proofs.Cut.{cut}
-use Rattle.rounding.proofs.Range.{ieval, In}
+use Rattle.rounding.proofs.Range.{ieval}
 use Rattle.pow_log.specs.Log2.{BP, DP·H, DP·L}
 use Rattle.pow_range.proofs.ProductSign.{one1, eight}
-use Rattle.pow_range.proofs.LogCells.{t1E, t2E, cells}
+use Rattle.pow_range.proofs.LogCells.{t1E, t2E, cells, both}
 
 abbrev pub number : ℕ → Float
 number n = ofInt binary64 (pos n)
@@ -34,146 +38,71 @@ high-t1 n = cells (t1E (BP 0) (DP·H 0) (DP·L 0)) 0x20080000 (number n) (neg ei
 abbrev pub high-t2 : ℕ → Bool
 high-t2 n = cells (t2E (BP 0) (DP·H 0) (DP·L 0)) 0x20080000 (number n) (neg one1) one1 0xB6EC 6 0x3FEBB67A
 
-pub low-t1-2 : T (low-t1 2)
-unfolding cells ieval cut add sub mul div le neg fits ofBits toBits ofInt
-low-t1-2 = tt
+-- what is asked of n as a float
+abbrev pub plain : ℕ → Bool
+plain n = finite (number n) && le (number n) (number n)
 
-pub low-t2-2 : T (low-t2 2)
-unfolding cells ieval cut add sub mul div le neg fits ofBits toBits ofInt
-low-t2-2 = tt
+-- a test passes at c numbers, from n on
+unfoldable pub every : (ℕ → Bool) → ℕ → ℕ → Bool
+every p zero n = true
+every p (suc c) n = elim (p n) [ true ↦ every p c (suc n) | false ↦ false ]
 
-pub middle-t1-2 : T (middle-t1 2)
-unfolding cells ieval cut add sub mul div le neg fits ofBits toBits ofInt
-middle-t1-2 = tt
+every-at : (p : ℕ → Bool) (c n k : ℕ) → T (every p c n) → n ≤ k → k < n + c → T (p k)
+unfolding every
+every-at p zero n k h a b = absurd (omega arith)
+every-at p (suc c) n k h a b =
+    let t = both (p n) (every p c (suc n)) h in
+    elim (eq-or-lt-of-le a) [ inl q ↦ subst (λ (z : ℕ). T (p z)) q (t .0) | inr l ↦ every-at p c (suc n) k (t .1) l (omega arith) ]
 
-pub middle-t2-2 : T (middle-t2 2)
-unfolding cells ieval cut add sub mul div le neg fits ofBits toBits ofInt
-middle-t2-2 = tt
+plains : T (every plain 6 2)
+unfolding every le ofInt
+plains = tt
 
-pub high-t1-2 : T (high-t1 2)
-unfolding cells ieval cut add sub mul div le neg fits ofBits toBits ofInt
-high-t1-2 = tt
+low-t1s : T (every low-t1 6 2)
+unfolding every cells ieval cut add sub mul div le neg fits ofBits toBits ofInt
+low-t1s = tt
 
-pub high-t2-2 : T (high-t2 2)
-unfolding cells ieval cut add sub mul div le neg fits ofBits toBits ofInt
-high-t2-2 = tt
+low-t2s : T (every low-t2 6 2)
+unfolding every cells ieval cut add sub mul div le neg fits ofBits toBits ofInt
+low-t2s = tt
 
-pub low-t1-3 : T (low-t1 3)
-unfolding cells ieval cut add sub mul div le neg fits ofBits toBits ofInt
-low-t1-3 = tt
+middle-t1s : T (every middle-t1 6 2)
+unfolding every cells ieval cut add sub mul div le neg fits ofBits toBits ofInt
+middle-t1s = tt
 
-pub low-t2-3 : T (low-t2 3)
-unfolding cells ieval cut add sub mul div le neg fits ofBits toBits ofInt
-low-t2-3 = tt
+middle-t2s : T (every middle-t2 6 2)
+unfolding every cells ieval cut add sub mul div le neg fits ofBits toBits ofInt
+middle-t2s = tt
 
-pub middle-t1-3 : T (middle-t1 3)
-unfolding cells ieval cut add sub mul div le neg fits ofBits toBits ofInt
-middle-t1-3 = tt
+high-t1s : T (every high-t1 6 2)
+unfolding every cells ieval cut add sub mul div le neg fits ofBits toBits ofInt
+high-t1s = tt
 
-pub middle-t2-3 : T (middle-t2 3)
-unfolding cells ieval cut add sub mul div le neg fits ofBits toBits ofInt
-middle-t2-3 = tt
+high-t2s : T (every high-t2 6 2)
+unfolding every cells ieval cut add sub mul div le neg fits ofBits toBits ofInt
+high-t2s = tt
 
-pub high-t1-3 : T (high-t1 3)
-unfolding cells ieval cut add sub mul div le neg fits ofBits toBits ofInt
-high-t1-3 = tt
+-- the tests of one n
+pub record Tests (n : ℕ) : Type 0 where
+  pub finite-n : T (finite (number n))
+  pub le-n : T (le (number n) (number n))
+  pub low1 : T (low-t1 n)
+  pub low2 : T (low-t2 n)
+  pub middle1 : T (middle-t1 n)
+  pub middle2 : T (middle-t2 n)
+  pub high1 : T (high-t1 n)
+  pub high2 : T (high-t2 n)
 
-pub high-t2-3 : T (high-t2 3)
-unfolding cells ieval cut add sub mul div le neg fits ofBits toBits ofInt
-high-t2-3 = tt
-
-pub low-t1-4 : T (low-t1 4)
-unfolding cells ieval cut add sub mul div le neg fits ofBits toBits ofInt
-low-t1-4 = tt
-
-pub low-t2-4 : T (low-t2 4)
-unfolding cells ieval cut add sub mul div le neg fits ofBits toBits ofInt
-low-t2-4 = tt
-
-pub middle-t1-4 : T (middle-t1 4)
-unfolding cells ieval cut add sub mul div le neg fits ofBits toBits ofInt
-middle-t1-4 = tt
-
-pub middle-t2-4 : T (middle-t2 4)
-unfolding cells ieval cut add sub mul div le neg fits ofBits toBits ofInt
-middle-t2-4 = tt
-
-pub high-t1-4 : T (high-t1 4)
-unfolding cells ieval cut add sub mul div le neg fits ofBits toBits ofInt
-high-t1-4 = tt
-
-pub high-t2-4 : T (high-t2 4)
-unfolding cells ieval cut add sub mul div le neg fits ofBits toBits ofInt
-high-t2-4 = tt
-
-pub low-t1-5 : T (low-t1 5)
-unfolding cells ieval cut add sub mul div le neg fits ofBits toBits ofInt
-low-t1-5 = tt
-
-pub low-t2-5 : T (low-t2 5)
-unfolding cells ieval cut add sub mul div le neg fits ofBits toBits ofInt
-low-t2-5 = tt
-
-pub middle-t1-5 : T (middle-t1 5)
-unfolding cells ieval cut add sub mul div le neg fits ofBits toBits ofInt
-middle-t1-5 = tt
-
-pub middle-t2-5 : T (middle-t2 5)
-unfolding cells ieval cut add sub mul div le neg fits ofBits toBits ofInt
-middle-t2-5 = tt
-
-pub high-t1-5 : T (high-t1 5)
-unfolding cells ieval cut add sub mul div le neg fits ofBits toBits ofInt
-high-t1-5 = tt
-
-pub high-t2-5 : T (high-t2 5)
-unfolding cells ieval cut add sub mul div le neg fits ofBits toBits ofInt
-high-t2-5 = tt
-
-pub low-t1-6 : T (low-t1 6)
-unfolding cells ieval cut add sub mul div le neg fits ofBits toBits ofInt
-low-t1-6 = tt
-
-pub low-t2-6 : T (low-t2 6)
-unfolding cells ieval cut add sub mul div le neg fits ofBits toBits ofInt
-low-t2-6 = tt
-
-pub middle-t1-6 : T (middle-t1 6)
-unfolding cells ieval cut add sub mul div le neg fits ofBits toBits ofInt
-middle-t1-6 = tt
-
-pub middle-t2-6 : T (middle-t2 6)
-unfolding cells ieval cut add sub mul div le neg fits ofBits toBits ofInt
-middle-t2-6 = tt
-
-pub high-t1-6 : T (high-t1 6)
-unfolding cells ieval cut add sub mul div le neg fits ofBits toBits ofInt
-high-t1-6 = tt
-
-pub high-t2-6 : T (high-t2 6)
-unfolding cells ieval cut add sub mul div le neg fits ofBits toBits ofInt
-high-t2-6 = tt
-
-pub low-t1-7 : T (low-t1 7)
-unfolding cells ieval cut add sub mul div le neg fits ofBits toBits ofInt
-low-t1-7 = tt
-
-pub low-t2-7 : T (low-t2 7)
-unfolding cells ieval cut add sub mul div le neg fits ofBits toBits ofInt
-low-t2-7 = tt
-
-pub middle-t1-7 : T (middle-t1 7)
-unfolding cells ieval cut add sub mul div le neg fits ofBits toBits ofInt
-middle-t1-7 = tt
-
-pub middle-t2-7 : T (middle-t2 7)
-unfolding cells ieval cut add sub mul div le neg fits ofBits toBits ofInt
-middle-t2-7 = tt
-
-pub high-t1-7 : T (high-t1 7)
-unfolding cells ieval cut add sub mul div le neg fits ofBits toBits ofInt
-high-t1-7 = tt
-
-pub high-t2-7 : T (high-t2 7)
-unfolding cells ieval cut add sub mul div le neg fits ofBits toBits ofInt
-high-t2-7 = tt
+pub tests : (n : ℕ) → 2 ≤ n → n < 8 → Tests n
+tests n a b =
+    let p = every-at plain 6 2 n plains a b in
+    record {
+      finite-n = and-l (finite (number n)) (le (number n) (number n)) p;
+      le-n = and-r (finite (number n)) (le (number n) (number n)) p;
+      low1 = every-at low-t1 6 2 n low-t1s a b;
+      low2 = every-at low-t2 6 2 n low-t2s a b;
+      middle1 = every-at middle-t1 6 2 n middle-t1s a b;
+      middle2 = every-at middle-t2 6 2 n middle-t2s a b;
+      high1 = every-at high-t1 6 2 n high-t1s a b;
+      high2 = every-at high-t2 6 2 n high-t2s a b;
+    }

@@ -1,10 +1,10 @@
 -- n and z as numbers of the smallest unit, of which 2 ^ 1074 are 1: `z-near` says that n is within 1/2 and `slack` of z, and `n-value`
 -- that the float t is n. Assumes nothing.
-use Prim.Native.Nat.{ℕ, zero, suc, _+_, _-_, _*_, _/_, _%_, _^_, _≤_, _<_}
+use Prim.Native.Nat.{ℕ, suc, _+_, _-_, _*_, _/_, _%_, _^_, _≤_, _<_}
 use mathlib.Core.Bool.{true, false}
 use mathlib.Core.Path.{_≡_, refl, sym, ap, _∙_, subst}
 use native.Mathlib.Omega.{arith}
-use native.Mathlib.Nat.{mul-assoc, mul-comm, add-mul, add-zero, mod-lt, mul-add-div-right, div-mul-le-self, lt-of-le-of-lt, mul-le-mul-right, mul-le-mul-left, le-trans, le-of-eq}
+use native.Mathlib.Nat.{mul-assoc, mul-comm, add-mul, add-zero, mod-lt, mul-add-div-right, div-mul-le-self, lt-of-le-of-lt, mul-le-mul-right, le-trans, le-of-eq}
 use lib.Pow.{pow-add, pow-pos, pow-mono}
 use lib.Dec.{lit<}
 use lib.Ieee.{Float, binary64, top, ofBits, toBits}
@@ -14,7 +14,7 @@ use Rattle.rounding.proofs.BitOrder.{scaled, bitVal, endless, bits-val, bits-ne
 use Rattle.words.specs.F64.{bits}
 use Rattle.words.specs.Bits.{withHighWordS}
 use Rattle.pow_exp.proofs.Half.{half, field, below, amount, half-le, field-ge, field-le, below-is}
-use Rattle.pow_range.proofs.NearZ.{Near, exponent, double, half-power, n-near, value-near}
+use Rattle.pow_range.proofs.NearZ.{exponent, double, half-power, n-near, value-near}
 
 -- the value of a pattern that is not subnormal
 bit-value : (b x : ℕ) → b / 0x10000000000000 ≡ suc x → bitVal binary64 b ≡ (0x10000000000000 + b % 0x10000000000000) * 2 ^ x

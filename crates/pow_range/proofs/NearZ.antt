@@ -1,6 +1,6 @@
 -- n = [z + 0.5], as `pow_exp::exp2` takes it from the high word i of z's size, is near z. In the digits of i a unit of n is 2 h, and
 -- z, cut to its high word, is M: `n-near` says that n units are within h of M. Assumes nothing.
-use Prim.Native.Nat.{ℕ, zero, suc, _+_, _-_, _*_, _/_, _%_, _^_, _≤_, _<_}
+use Prim.Native.Nat.{ℕ, _+_, _-_, _*_, _/_, _%_, _^_, _≤_, _<_}
 use mathlib.Core.Path.{_≡_, refl, sym, ap, _∙_, subst}
 use mathlib.Core.Bool.{Bool, true, false}
 use native.Mathlib.Omega.{arith}
@@ -8,7 +8,7 @@ use native.Mathlib.Nat.{div-add-mod', mod-lt, div-eq-of-lt-le, div-le-self, mul-
 use lib.Dec.{ltb}
 use lib.Pow.{pow-pos, pow-add}
 use borrow.Author.Tests.{ltb-true, ltb-false}
-use Rattle.pow_exp.proofs.Half.{half, field, below, amount}
+use Rattle.pow_exp.proofs.Half.{half, below, amount}
 
 -- 2 ^ 20 is 2 ^ (20 - e) times 2 ^ e
 split : (e : ℕ) → e ≤ 20 → 2 ^ (20 - e) * 2 ^ e ≡ 0x100000

@@ -1,27 +1,26 @@
 -- pow is no NaN and carries no minus sign, for a base from 5.5 to 190 and an exponent from -92 to 92: `pow-plus`. Assumes nothing.
-use Prim.Native.Nat.{ℕ, zero, suc, _+_, _-_, _*_, _/_, _%_, _^_, _≤_, _<_}
-use mathlib.Core.Path.{_≡_, refl, sym, ap, _∙_, subst}
+use Prim.Native.Nat.{ℕ, zero, suc, _+_, _*_, _/_, _%_, _^_, _≤_, _<_}
+use mathlib.Core.Path.{_≡_, refl, sym, subst}
 use mathlib.Core.Bool.{Bool, true, false, not, _&&_, and-false, false≢true}
 use mathlib.Core.List.{[]}
 use native.Mathlib.Omega.{arith}
-use lib.IntN.{ℤ, pos, negsuc}
-use lib.Dec.{T, lit<, ltb, leb, eqb}
-use lib.Ieee.{Float, nan, inf, fin, binary64, add, sub, mul, div, le, neg, fits, toBits, ofBits, up, down, round}
+use lib.IntN.{pos, negsuc}
+use lib.Dec.{T, lit<, leb, eqb}
+use lib.Ieee.{Float, nan, inf, fin, binary64, mul, div, le, neg, fits, toBits, ofBits, up, down}
 use lib.Ieee.Bits.{ofBits-toBits}
 use lib.Ieee.Fits.{down-pos}
 use lib.Ieee.Scale.{finite}
-use borrow.Author.Tests.{le-leb, lt-leb, lt-ltb, le-ltb, eq-eqb, ne-eqb}
+use borrow.Author.Tests.{lt-leb, le-ltb, ne-eqb}
 use Rattle.rounding.proofs.Signed.{Signed, signed-of-le, le-neg, round-signed}
 use Rattle.rounding.proofs.Order.{le-trans, between-finite}
 use Rattle.rounding.proofs.BitOrder.{le-bits, toBits-under}
 use Rattle.rounding.proofs.Range.{var, con, times, over, eval, ieval, In, rangeTest, range}
 use Rattle.words.specs.Pick.{pick}
-use Rattle.words.specs.F64.{_⊕_, _⊖_, _⊗_, _⊘_, bits}
-use Rattle.words.specs.Bits.{highWordS, lowWordS, sizeWordS}
+use Rattle.words.specs.F64.{_⊗_, _⊘_}
+use Rattle.words.specs.Bits.{highWordS, lowWordS}
 use Rattle.words.specs.Fabs.{fabsS}
 use Rattle.words.proofs.CutLaws.{word-upto}
 use Rattle.pow_log.specs.Log2.{log2S}
-use Rattle.pow_exp.specs.Exp2.{productS}
 use Rattle.sqrt.specs.Sqrt.{root, sqrtS}
 use Rattle.pow.specs.Pow.{yisintS, signedS, plainS, finiteS, specialYS, powAtS, powS}
 use Rattle.pow_range.proofs.ProductSign.{ninety-two, product-plus}

@@ -1,31 +1,31 @@
 -- `productS` with the sign 1 is no NaN and carries no minus sign, for a y of at most 92 in size, t1 of at most 8 and t2 of at most 1:
 -- `product-plus`. Assumes nothing.
-use Prim.Native.Nat.{ℕ, zero, suc, _+_, _-_, _*_, _/_, _%_, _^_, _≤_, _<_}
-use mathlib.Core.Path.{_≡_, refl, sym, ap, _∙_, subst}
+use Prim.Native.Nat.{ℕ, _+_, _-_, _*_, _/_, _%_, _^_, _≤_, _<_}
+use mathlib.Core.Path.{_≡_, refl, sym, ap, subst}
 use mathlib.Core.Bool.{Bool, true, false, and-false}
 use mathlib.Core.List.{[], _∷_}
 use native.Mathlib.Omega.{arith}
 use native.Mathlib.Nat.{le-of-eq, le-of-lt, le-trans, add-zero}
-use lib.IntN.{ℤ, pos, negsuc}
+use lib.IntN.{pos}
 use lib.Pow.{pow-pos, pow-add}
 use lib.Dec.{T, lit<, ltb}
-use lib.Ieee.{Float, nan, inf, fin, binary64, add, sub, mul, le, neg, fits, toBits, ofBits}
+use lib.Ieee.{Float, nan, inf, fin, binary64, add, mul, le, neg, fits, toBits, ofBits}
 use lib.Ieee.Exact.{HasValue}
 use lib.Ieee.Scale.{finite}
 use lib.Ieee.Fits.{add-fits, mul-fits}
 use borrow.Author.Tests.{lt-leb, ltb-true}
-use Rattle.rounding.proofs.Signed.{P, N, Signed, signed-of-le, le-of-signed, value-finite, value-neg}
+use Rattle.rounding.proofs.Signed.{Signed, signed-of-le, le-of-signed, value-finite, value-neg}
 use Rattle.rounding.proofs.Order.{between-finite, neg-finite}
 use Rattle.rounding.proofs.Grid.{on-grid}
 use Rattle.rounding.proofs.Cut.{cut}
 use Rattle.rounding.proofs.Interval.{some}
-use Rattle.rounding.proofs.Range.{Expr, var, con, plus, minus, times, eval, ieval, In, rangeTest, range}
-use Rattle.words.specs.F64.{_⊕_, _⊖_, _⊗_, bits}
+use Rattle.rounding.proofs.Range.{Expr, var, plus, times, eval, ieval, In, rangeTest, range}
+use Rattle.words.specs.F64.{_⊕_, _⊖_, _⊗_}
 use Rattle.words.specs.Bits.{highWordS, lowWordS, withLowWordS}
 use Rattle.pow_log.specs.declared.Parts.{Parts}
 use Rattle.pow_exp.specs.Exp2.{exp2S, boundedS, productS}
 use Rattle.pow_range.proofs.FractionRange.{slight}
-use Rattle.pow_range.proofs.Reduced.{CutTo, cut-value, NearDifference, difference-near, over-low, under-high, within-slight}
+use Rattle.pow_range.proofs.Reduced.{cut-value, NearDifference, difference-near, over-low, under-high, within-slight}
 use Rattle.pow_range.proofs.Exp2Range.{word-high, word-under}
 use Rattle.pow_range.proofs.Exp2Sign.{one, exp2-plus}
 

@@ -1,15 +1,15 @@
 -- The sum of two values p_l and g of at most 2048 in size, where it is at most 1/2 and a little in size: its upper word's value t and
 -- what that leaves, e, are as small as `fraction-range` wants them: `small-parts`. Linear in the smallest unit. Assumes nothing.
-use Prim.Native.Nat.{ℕ, zero, suc, _+_, _-_, _*_, _/_, _%_, _^_, _≤_, _<_}
+use Prim.Native.Nat.{ℕ, _+_, _-_, _*_, _/_, _^_, _≤_, _<_}
 use mathlib.Core.Path.{_≡_, refl, sym, ap, _∙_, subst}
 use mathlib.Core.Bool.{Bool, true, false, not}
 use native.Mathlib.Omega.{arith}
-use native.Mathlib.Nat.{lt-of-lt-of-le, lt-of-le-of-lt, le-of-lt, le-of-eq, eq-or-lt-of-le, add-zero, div-mul-le-self, zero-mul, eq-of-mul-eq-mul-right}
+use native.Mathlib.Nat.{lt-of-le-of-lt, le-of-lt, le-of-eq, eq-or-lt-of-le, add-zero, div-mul-le-self, zero-mul, eq-of-mul-eq-mul-right}
 use mathlib.Core.Logic.{inl, inr}
-use lib.IntN.{ℤ, pos, negsuc}
-use lib.Pow.{pow-pos, pow-mono, pow-add}
+use lib.IntN.{ℤ}
+use lib.Pow.{pow-pos, pow-add}
 use lib.Dec.{T, lit<}
-use lib.Ieee.{Float, nan, inf, fin, Format, binary64, prec, low, down, neg, le, add, sub, fits, toBits, ofBits}
+use lib.Ieee.{Float, nan, inf, fin, binary64, down, neg, add, sub, fits, toBits, ofBits}
 use lib.Ieee.Bits.{ofBits-toBits}
 use lib.Ieee.Exact.{HasValue}
 use lib.Ieee.Fits.{down-pos, add-fits}

@@ -70,7 +70,8 @@ val-lt f b c h =
       | inr l ↦ fields-lt (b / hid f) (b % hid f) (c / hid f) (c % hid f) (hid f) (mod-lt b (hid-pos f)) l
     ]
 
-val-le : (f : Format) (b c : ℕ) → b ≤ c → bitVal f b ≤ bitVal f c
+-- `bitVal` keeps the order
+pub val-le : (f : Format) (b c : ℕ) → b ≤ c → bitVal f b ≤ bitVal f c
 val-le f b c h = elim (eq-or-lt-of-le h) [ inl e ↦ le-of-eq (ap (bitVal f) e) | inr l ↦ le-of-lt (val-lt f b c l) ]
 
 -- ---- the patterns below the infinity's
@@ -79,15 +80,16 @@ val-le f b c h = elim (eq-or-lt-of-le h) [ inl e ↦ le-of-eq (ap (bitVal f) e) 
 abbrev pub endless : Format → ℕ
 endless f = ones f * hid f
 
-fields-val : (f : Format) (x t : ℕ) → x < ones f → HasValue (ofFields f false x t) false (scaled x t (hid f)) (2 ^ low f)
+-- the value of a sign, an exponent's field x below the infinity's, and digits t
+pub fields-val : (f : Format) (s : Bool) (x t : ℕ) → x < ones f → HasValue (ofFields f s x t) s (scaled x t (hid f)) (2 ^ low f)
 unfolding ofFields
-fields-val f zero t h =
-    subst (λ (z : ℕ). HasValue (odd (prec f) false t 0 (low f)) false z (2 ^ low f)) (mul-one t) (odd-sign (prec f) false t 0 (low f))
-fields-val f (suc x) t h =
-    subst (λ (z : Float). HasValue z false ((hid f + t) * 2 ^ x) (2 ^ low f))
-    (sym (cond-no (eqb (suc x) (ones f)) (cond (eqb t 0) (inf false) nan) (odd (prec f) false (hid f + t) x (low f))
+fields-val f s zero t h =
+    subst (λ (z : ℕ). HasValue (odd (prec f) s t 0 (low f)) s z (2 ^ low f)) (mul-one t) (odd-sign (prec f) s t 0 (low f))
+fields-val f s (suc x) t h =
+    subst (λ (z : Float). HasValue z s ((hid f + t) * 2 ^ x) (2 ^ low f))
+    (sym (cond-no (eqb (suc x) (ones f)) (cond (eqb t 0) (inf s) nan) (odd (prec f) s (hid f + t) x (low f))
     (not-T (eqb (suc x) (ones f)) (λ (u : T (eqb (suc x) (ones f))). differ (suc x) (ones f) h (eqb→eq (suc x) (ones f) u)))))
-    (odd-sign (prec f) false (hid f + t) x (low f))
+    (odd-sign (prec f) s (hid f + t) x (low f))
   where
     differ : (a b : ℕ) → a < b → a ≡ b → ⊥
     differ a b h e = omega arith
@@ -115,7 +117,7 @@ bits-val f b h =
     (sym (bits-open f b
     ∙ ap (λ (s : Bool). ofFields f s (b % top f / hid f) (b % hid f)) (sign-clear f b t)
     ∙ ap (λ (x : ℕ). ofFields f false (x / hid f) (b % hid f)) (mod-eq-of-lt t)))
-    (fields-val f (b / hid f) (b % hid f) (div-lt-iff-lt-mul (hid-pos f) .1 h))
+    (fields-val f false (b / hid f) (b % hid f) (div-lt-iff-lt-mul (hid-pos f) .1 h))
 
 -- patterns in order have values in order
 pub bits-le : (f : Format) (b c : ℕ) → b ≤ c → c < endless f → T (le (ofBits f b) (ofBits f c))

@@ -5,7 +5,7 @@
 use mathlib.Core.Path.{_≡_, sym, ap, _∙_}
 use Prim.Native.Nat.{ℕ, zero, suc, _+_, _-_, _*_, _^_, _≤_, _<_, _%_}
 use native.Mathlib.Nat.{le-of-eq, lt-of-le-of-lt, lt-of-lt-of-le, lt-of-not-le, not-le-of-lt}
-use native.Mathlib.Nat.{zero-mul, one-mul, mul-one, mul-comm, mul-assoc, mul-right-comm}
+use native.Mathlib.Nat.{mul-mod-left, zero-mul, one-mul, mul-one, mul-comm, mul-assoc, mul-right-comm}
 use native.Mathlib.Nat.{mul-le-mul-right, mul-lt-mul-of-pos-right, lt-of-mul-lt-mul-right}
 use native.Mathlib.Omega.{arith}
 use mathlib.Core.Bool.{Bool, _&&_}
@@ -38,6 +38,14 @@ fits-open f s m e t =
 -- a power of 2 below another has the smaller exponent
 pub pow-cancel-lt : (a b : ℕ) → 2 ^ a < 2 ^ b → a < b
 pow-cancel-lt a b h = lt-of-not-le (λ (g : b ≤ a). not-le-of-lt h (pow-mono g))
+
+-- a multiple of 2 ^ l leaves no remainder by 2 ^ l
+pub pow-multiple : (d x l : ℕ) → l ≤ x → d * 2 ^ x % 2 ^ l ≡ 0
+pow-multiple d x l h =
+    ap (λ (n : ℕ). d * 2 ^ n % 2 ^ l) (sym (back x l h))
+    ∙ ap (λ (n : ℕ). d * n % 2 ^ l) (pow-add 2 (x - l) l)
+    ∙ ap (λ (n : ℕ). n % 2 ^ l) (sym (mul-assoc d (2 ^ (x - l)) (2 ^ l)))
+    ∙ mul-mod-left (d * 2 ^ (x - l)) (2 ^ l)
 
 pow-cancel-le : (a b : ℕ) → 2 ^ a ≤ 2 ^ b → a ≤ b
 pow-cancel-le a b h = let k = pow-cancel-lt a (suc b) (lt-of-le-of-lt h (pow-lt (next b))) in omega arith

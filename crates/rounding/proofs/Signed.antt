@@ -4,12 +4,13 @@
 --   `le-of-signed`, `signed-of-le`: `le` on finite values is the order of any fractions that they equal;
 --   `round-Le`: rounding keeps the order, whatever the signs; `round-zero`: the rounding of a zero is a zero;
 --   `round-not`, `round-neg`: rounding goes through a change of sign; `round-signed`: it keeps the sign that it is given;
+--   `value-longer`, `value-shorter`: other fractions of one value;
 --   `le-neg`: a change of sign turns the order; `le-signed`: what has a minus sign is at most what has none.
 -- Assumes nothing.
 use mathlib.Core.Path.{_≡_, refl, sym, ap, _∙_, subst}
 use mathlib.Core.Logic.{_⊎_, inl, inr}
 use Prim.Native.Nat.{ℕ, zero, suc, _+_, _*_, _^_, _≤_, _<_}
-use native.Mathlib.Nat.{le-of-eq, le-of-lt, zero-mul, mul-comm, mul-assoc, mul-left-comm, mul-add, add-mul, mul-le-mul-right}
+use native.Mathlib.Nat.{mul-right-comm, eq-of-mul-eq-mul-right, le-of-eq, le-of-lt, zero-mul, mul-comm, mul-assoc, mul-left-comm, mul-add, add-mul, mul-le-mul-right}
 use native.Mathlib.Nat.{le-of-mul-le-mul-right, mul-pos, eq-zero-or-pos}
 use native.Mathlib.Omega.{arith}
 use mathlib.Core.Bool.{Bool, true, false, not, _&&_, _||_, cond}
@@ -308,3 +309,18 @@ round-Le f false a b true c d B D h =
 round-Le f true a b true c d B D h =
     rw (round-neg f a b, round-neg f c d)
     (le-neg (round f false c d) (round f false a b) (round-mono f c d a b D B (omega arith)))
+
+-- ---- other fractions of one value
+pub value-longer : (x : Float) (s : Bool) (a c p : ℕ) → HasValue x s a c → HasValue x s (a * p) (c * p)
+value-longer nan s a c p v = v
+value-longer (inf t) s a c p v = v
+value-longer (fin t m e) s a c p v =
+    (v .0, sym (mul-assoc (m * up e) c p) ∙ ap (λ (z : ℕ). z * p) (v .1) ∙ mul-right-comm a (down e) p)
+
+pub value-shorter : (x : Float) (s : Bool) (a c p : ℕ) → 0 < p → HasValue x s (a * p) (c * p) → HasValue x s a c
+value-shorter nan s a c p P v = v
+value-shorter (inf t) s a c p P v = v
+value-shorter (fin t m e) s a c p P v = (
+  v .0,
+  eq-of-mul-eq-mul-right p P (m * up e * c) (a * down e) (mul-assoc (m * up e) c p ∙ v .1 ∙ mul-right-comm a p (down e)),
+)

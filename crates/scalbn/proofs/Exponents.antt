@@ -15,13 +15,9 @@ use borrow.Author.Tests.{lt-ltb, le-ltb, ltb-true, ltb-false}
 abbrev pub local : ℤ → ℤ
 local z = toZ w32 (ofZ w32 z)
 
--- it is z, where z fits
-pub held : (z : ℤ) → SFits w32 z → local z ≡ z
-held z f = toZ-ofZ w32 z f
-
 -- and one that was given the sum of such a local and a number
 pub held-sum : (z k : ℤ) → SFits w32 z → SFits w32 (z +ℤ k) → local (local z +ℤ k) ≡ z +ℤ k
-held-sum z k f g = ap (λ (v : ℤ). local (v +ℤ k)) (held z f) ∙ held (z +ℤ k) g
+held-sum z k f g = ap (λ (v : ℤ). local (v +ℤ k)) (toZ-ofZ w32 z f) ∙ toZ-ofZ w32 (z +ℤ k) g
 
 -- from b on the difference of two natural numbers is the natural one
 pub sub-above : (a b : ℕ) → b ≤ a → subℕ a b ≡ pos (a - b)

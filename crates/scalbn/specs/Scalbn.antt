@@ -1,5 +1,5 @@
 -- scalbn: x times 2 ^ n, as the Rust's generic/scalbn.rs works it out, in at most three rounded products and in either format.
-use Prim.Native.Nat.{_+_, _-_, _*_}
+use Prim.Native.Nat.{_-_, _*_}
 use lib.IntN.{ℤ, pos, negℤ, natAbs, _+ℤ_, _-ℤ_}
 use lib.Signed.{ltZ}
 use lib.Ieee.{Float, Format, prec, emax, hid, ofBits, mul}

@@ -4,9 +4,9 @@
 use mathlib.Core.Path.{_≡_, refl, sym, ap, _∙_, subst}
 use mathlib.Core.Logic.{inl, inr}
 use Prim.Native.Nat.{ℕ, suc, _+_, _-_, _*_, _/_, _%_, _^_, _≤_, _<_}
-use native.Mathlib.Nat.{le-of-lt, lt-of-le-of-lt, add-comm, add-mul, mul-comm, mul-assoc, mul-left-comm, mul-right-comm, one-mul, mul-sub, mul-le-mul-right, mul-le-mul-left, mul-lt-mul-of-pos-right, div-add-mod', mod-lt, mod-le, mod-eq-of-lt, add-mul-mod-self-right, pow-succ', le-of-mul-le-mul-right, eq-zero-or-pos}
+use native.Mathlib.Nat.{le-of-lt, lt-of-le-of-lt, add-comm, add-mul, mul-comm, mul-assoc, mul-left-comm, one-mul, mul-sub, mul-le-mul-right, mul-le-mul-left, mul-lt-mul-of-pos-right, div-add-mod', mod-lt, mod-le, mod-eq-of-lt, add-mul-mod-self-right, pow-succ', le-of-mul-le-mul-right, eq-zero-or-pos}
 use native.Mathlib.Omega.{arith}
-use mathlib.Core.Bool.{Bool, true, false}
+use mathlib.Core.Bool.{true, false}
 use lib.IntN.{pos, negsuc, natAbs}
 use lib.Pow.{pow-pos, pow-add, pow-mono}
 use lib.Ieee.{Float, nan, inf, fin, Format, prec, emax, low, up, down, round, mul, sub}
@@ -15,6 +15,8 @@ use lib.Ieee.Nearest.{div-same}
 use lib.Ieee.Exact.{HasValue}
 use lib.Ieee.Back.{round-whole}
 use borrow.Author.Tests.{lt-ltb}
+use lib.Ieee.Digits.{back}
+use Rattle.rounding.proofs.Signed.{value-longer}
 use Rattle.rounding.proofs.Exact.{mul-pow-exact, half-exact, sub-exact, sub-exact-neg}
 use Rattle.words.specs.Floor.{floorS}
 use Rattle.words.specs.Whole.{wholeS}
@@ -45,12 +47,6 @@ sub-le a b = omega arith
 
 -- ---- floor and the whole part of a value A / L
 
--- another fraction of the same value
-widen : (x : Float) (s : Bool) (a c k : ℕ) → HasValue x s a c → HasValue x s (a * k) (c * k)
-widen nan s a c k v = v
-widen (inf t) s a c k v = v
-widen (fin t m e) s a c k v = (v .0, sym (mul-assoc (m * up e) c k) ∙ ap (λ (z : ℕ). z * k) (v .1) ∙ mul-right-comm a (down e) k)
-
 floor-value : (f : Format) (x : Float) (A L : ℕ) → 0 < L → HasValue x false A L → A / L < 2 ^ prec f → HasValue (floorS f x) false (A / L * L) L
 floor-value f x A L l v h =
     elim (eq-zero-or-pos (A % L)) [
@@ -58,7 +54,7 @@ floor-value f x A L l v h =
           (subst (λ (a : ℕ). HasValue x false a L) (all (A / L * L) (A % L) A (div-add-mod' A L) z) v)
       | inr p ↦ subst (λ (y : Float). HasValue y false (A / L * L) L)
           (falls f x (round f false (A / L) 1) false A L l v (λ (z : A % L ≡ 0). no (A % L) z p) h (round-fits f false (A / L) 1) (round-whole f false (A / L) (le-of-lt h)))
-          (subst (λ (c : ℕ). HasValue (round f false (A / L) 1) false (A / L * L) c) (one-mul L) (widen (round f false (A / L) 1) false (A / L) 1 L (round-whole f false (A / L) (le-of-lt h))))
+          (subst (λ (c : ℕ). HasValue (round f false (A / L) 1) false (A / L * L) c) (one-mul L) (value-longer (round f false (A / L) 1) false (A / L) 1 L (round-whole f false (A / L) (le-of-lt h))))
     ]
   where
     all : (q r a : ℕ) → q + r ≡ a → r ≡ 0 → a ≡ q
@@ -105,9 +101,6 @@ module _ (f : Format) (x : Float) (m j : ℕ) (v : HasValue x false (m * 2 ^ suc
   -- L is 2 ^ (low - j) * 2 ^ j
   unit-is : 2 ^ low f ≡ 2 ^ (low f - j) * 2 ^ j
   unit-is = ap (λ (z : ℕ). 2 ^ z) (sym (back (low f) j deep)) ∙ pow-add 2 (low f - j) j
-    where
-      back : (l j : ℕ) → j ≤ l → l - j + j ≡ l
-      back l j h = omega arith
 
   rest-lt : restOf f m j < 2 ^ prec f
   rest-lt = lt-of-le-of-lt (mod-le m (2 ^ (low f - j))) small
@@ -153,11 +146,11 @@ module _ (f : Format) (x : Float) (m j : ℕ) (v : HasValue x false (m * 2 ^ suc
   steps-is : suc j < low f → (n : ℕ) → n * 2 ^ (low f - 1) ≡ steps n * 2 ^ suc j
   unfolding steps
   steps-is h n =
-      ap (λ (z : ℕ). n * z) (ap (λ (z : ℕ). 2 ^ z) (sym (back (low f) j h)) ∙ pow-add 2 (low f - 1 - suc j) (suc j))
+      ap (λ (z : ℕ). n * z) (ap (λ (z : ℕ). 2 ^ z) (sym (behind (low f) j h)) ∙ pow-add 2 (low f - 1 - suc j) (suc j))
       ∙ sym (mul-assoc n (2 ^ (low f - 1 - suc j)) (2 ^ suc j))
     where
-      back : (l j : ℕ) → suc j < l → l - 1 - suc j + suc j ≡ l - 1
-      back l j h = omega arith
+      behind : (l j : ℕ) → suc j < l → l - 1 - suc j + suc j ≡ l - 1
+      behind l j h = omega arith
 
   times-minus : (a b g : ℕ) → a * g - b * g ≡ (a - b) * g
   times-minus a b g = ap (λ (z : ℕ). z - b * g) (mul-comm a g) ∙ ap (λ (z : ℕ). g * a - z) (mul-comm b g) ∙ sym (mul-sub g a b) ∙ mul-comm g (a - b)

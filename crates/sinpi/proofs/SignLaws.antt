@@ -8,7 +8,7 @@ use native.Mathlib.Omega.{arith}
 use mathlib.Core.Bool.{Bool, true, false, not}
 use lib.IntN.{ℤ, pos, negsuc}
 use lib.Dec.{T, ltb, ltb→lt, nltb→le}
-use lib.Pow.{pow-pos, pow-add, pow-mono}
+use lib.Pow.{pow-pos, pow-mono}
 use lib.Ieee.{Float, fin, binary64, add, sub, mul, neg, le, fits, ofInt, ofBits, low, prec, emax, up, down}
 use lib.Ieee.Exact.{HasValue}
 use lib.Ieee.Fits.{down-pos, mul-fits, sub-fits}
@@ -17,7 +17,7 @@ use lib.Ieee.Positive.{positive}
 use Rattle.rounding.proofs.Signed.{le→Le}
 use Rattle.rounding.proofs.Exact.{Representable, sub-exact}
 use Rattle.rounding.proofs.Relative.{zero+, one+}
-use Rattle.rounding.proofs.Grid.{OnGrid, on-grid, spare}
+use Rattle.rounding.proofs.Grid.{OnGrid, on-grid, spare, pow-multiple}
 use Rattle.words.specs.F64.{bits}
 use Rattle.words.specs.Floor.{floorS}
 use Rattle.words.specs.Whole.{wholeS}
@@ -55,22 +55,12 @@ odd-rest X L l h = mod-unique X (X / L / 2) (2 * L) (L + X % L) (sum (X / L) (X 
         omega arith
 
 -- ---- x as X = m * 2 ^ J units
-grid-zero : (m J l : ℕ) → l ≤ J → m * 2 ^ J % 2 ^ l ≡ 0
-grid-zero m J l h =
-    ap (λ (z : ℕ). m * 2 ^ z % 2 ^ l) (sym (back J l h))
-    ∙ ap (λ (z : ℕ). m * z % 2 ^ l) (pow-add 2 (J - l) l)
-    ∙ ap (λ (z : ℕ). z % 2 ^ l) (sym (mul-assoc m (2 ^ (J - l)) (2 ^ l)))
-    ∙ mul-mod-left (m * 2 ^ (J - l)) (2 ^ l)
-  where
-    back : (J l : ℕ) → l ≤ J → J - l + l ≡ J
-    back J l h = omega arith
-
 fraction-deep : (m J l : ℕ) → (m * 2 ^ J % 2 ^ l ≡ 0 → ⊥) → J < l
 fraction-deep m J l h = go (ltb J l) (ltb→lt J l) (nltb→le J l)
   where
     go : (b : Bool) → (T b → J < l) → (T (not b) → l ≤ J) → J < l
     go true p q = p tt
-    go false p q = absurd (h (grid-zero m J l (q tt)))
+    go false p q = absurd (h (pow-multiple m J l (q tt)))
 
 few : (m j l p : ℕ) → m < 2 ^ p → j ≤ l → m * 2 ^ j / 2 ^ l < 2 ^ p
 few m j l p h k =
@@ -199,7 +189,7 @@ far-zero x m j v small fine far =
     let A = m * 2 ^ j in
     let h = mul binary64 x half+ in
     let a : HasValue h false A L = half-value binary64 x m j v small fine in
-    let f : h ≡ floorS binary64 h = stays binary64 h false A L (pow-pos (low binary64)) a (grid-zero m j (low binary64) far) in
+    let f : h ≡ floorS binary64 h = stays binary64 h false A L (pow-pos (low binary64)) a (pow-multiple m j (low binary64) far) in
     turn-of x
     ∙ ap (λ (y : Float). mul binary64 (fin false 1 (pos 1)) (sub binary64 h y)) (sym f)
     ∙ ap (λ (y : Float). mul binary64 (fin false 1 (pos 1)) y) (sub-self h A a)

@@ -17,7 +17,7 @@ use lib.Ieee.Positive.{positive, positive-of-value}
 use Rattle.rounding.proofs.Grid.{OnGrid, on-grid, pow-cancel-lt}
 use Rattle.sqrt.specs.Sqrt.{sqrtS, root}
 use Rattle.sqrt.proofs.Root.{RootIs, root-is}
-use Rattle.sqrt.proofs.Scaled.{longer}
+use Rattle.rounding.proofs.Signed.{value-longer}
 use Rattle.sqrt.proofs.Positive.{AtEven, at-even, even-part, odd-part, q-from, root-value}
 
 -- ---- values in units of 2 ^ -1074
@@ -134,7 +134,7 @@ found m e X t v = at (on (suc m) e X t v .0) (units (suc m) e X t v) (on (suc m)
         k = j + (1024 - s)
 
         w : HasValue x false (X * 2 ^ 1024) (2 ^ 2098)
-        w = longer x false X (2 ^ 1074) (2 ^ 1024) v
+        w = value-longer x false X (2 ^ 1074) (2 ^ 1024) v
 
         j-lt : j < 2098
         j-lt = pow-cancel-lt j 2098 (lt-of-le-of-lt (le-trans (le-of-eq (sym (one-mul (2 ^ j)))) (mul-le-mul-right (2 ^ j) (suc-le-suc zero-le))) fine)

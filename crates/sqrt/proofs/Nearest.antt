@@ -3,14 +3,14 @@ use mathlib.Core.Path.{_≡_, sym, ap, _∙_}
 use Prim.Native.Nat.{ℕ, suc, _+_, _*_, _^_, _<_}
 use native.Mathlib.Nat.{mul-assoc}
 use native.Mathlib.Omega.{arith}
-use mathlib.Core.Bool.{true, false, not, true≢false}
+use mathlib.Core.Bool.{true, false, true≢false}
 use lib.IntN.{ℤ}
 use lib.Dec.{T}
 use lib.Pow.{pow-add, pow-pos}
 use lib.Ieee.{Float, nan, inf, fin, binary64, fits}
 use lib.Ieee.Exact.{HasValue}
-use Rattle.sqrt.specs.Sqrt.{sqrtS, root}
-use Rattle.sqrt.proofs.Scaled.{longer}
+use Rattle.sqrt.specs.Sqrt.{sqrtS}
+use Rattle.rounding.proofs.Signed.{value-longer}
 use Rattle.sqrt.proofs.Positive.{long, q-from, root-value}
 use Rattle.sqrt.proofs.Found.{value-is, multiple, Found, found}
 use Rattle.sqrt.proofs.Sides.{nearer-than-above, nearer-than-below}
@@ -37,7 +37,7 @@ nearest m e (fin false n d) X Y Z t tz v vy vz = at (found m e X t v)
         let big = q-from A h q (f .lo) (f .hi) (f .small) (f .near .0) (f .near .1) in
         let full = long A h q (f .lo) (f .hi) (f .small) (f .near .0) (f .near .1) in
         let y = value-is (sqrtS x) false Y (q * U) (2 ^ 1074) vy (root-value A h q (f .lo) (f .hi) (f .small) (f .near .0) (f .near .1) x (f .value) .0) in
-        let s = scaled X A h (value-is x false (X * 2 ^ 1024) (A * (2 ^ (h + 475) * 2 ^ (h + 475))) (2 ^ 2098) (longer x false X (2 ^ 1074) (2 ^ 1024) v) (f .value)) in
+        let s = scaled X A h (value-is x false (X * 2 ^ 1024) (A * (2 ^ (h + 475) * 2 ^ (h + 475))) (2 ^ 2098) (value-longer x false X (2 ^ 1074) (2 ^ 1024) v) (f .value)) in
         let grid = multiple n d Z tz vz (h + 474) in (
           nearer-than-above (A * 2 ^ 52) U q (2 ^ 52) (X * 2 ^ 1074) Y Z (pow-pos (h + 474)) s y big full (f .near .0) (f .near .1) grid,
           nearer-than-below (A * 2 ^ 52) U q (2 ^ 52) (X * 2 ^ 1074) Y Z (pow-pos (h + 474)) s y big full (f .near .0) (f .near .1) grid,

@@ -3,29 +3,18 @@ use mathlib.Core.Path.{_≡_, sym, ap, _∙_, subst}
 use Prim.Native.Nat.{ℕ, suc, _+_, _-_, _*_, _/_, _%_, _^_, _≤_, _<_}
 use native.Mathlib.Nat.{le-trans, le-of-eq, lt-of-le-of-lt, lt-of-lt-of-le, add-comm, mul-assoc, mul-le-mul-right, mul-lt-mul-of-pos-right, div-eq-of-lt, mod-eq-of-lt}
 use native.Mathlib.Omega.{arith}
-use mathlib.Core.Bool.{Bool, false}
+use mathlib.Core.Bool.{false}
 use lib.Count.{leadingZeros, leading-top}
 use lib.Pow.{pow-add, pow-pos}
-use lib.Ieee.{Float, nan, inf, fin, binary64, up, down, ofBits}
+use lib.Ieee.{binary64, ofBits}
 use lib.Ieee.Exact.{HasValue}
 use Rattle.rounding.proofs.BitOrder.{scaled, bitVal, endless, bits-val}
 use Rattle.rounding.proofs.Grid.{pow-cancel-lt}
-
--- ---- another fraction of the same size
-pub longer : (x : Float) (s : Bool) (a c p : ℕ) → HasValue x s a c → HasValue x s (a * p) (c * p)
-longer nan s a c p v = v
-longer (inf t) s a c p v = v
-longer (fin t m e) s a c p v = (v .0, left (m * up e) ∙ ap (λ (z : ℕ). z * p) (v .1) ∙ right (down e))
-  where
-    left : (x : ℕ) → x * (c * p) ≡ x * c * p
-    left x = omega arith
-
-    right : (d : ℕ) → a * d * p ≡ a * p * d
-    right d = omega arith
+use Rattle.rounding.proofs.Signed.{value-longer}
 
 at-units : (b N : ℕ) → b < endless binary64 → bitVal binary64 b ≡ N → HasValue (ofBits binary64 b) false (N * 2 ^ 1024) (2 ^ 2098)
 at-units b N h e =
-    longer (ofBits binary64 b) false N (2 ^ 1074) (2 ^ 1024)
+    value-longer (ofBits binary64 b) false N (2 ^ 1074) (2 ^ 1024)
     (subst (λ (z : ℕ). HasValue (ofBits binary64 b) false z (2 ^ 1074)) e (bits-val binary64 b h))
 
 -- ---- a field that is not 0

@@ -1,12 +1,11 @@
 -- Laws of `digits` and `word`, over the width. Assumes nothing.
-use mathlib.Core.Path.{_≡_, refl, sym, ap, _∙_, subst}
+use mathlib.Core.Path.{_≡_, refl, ap, _∙_}
 use mathlib.Core.List.{List, [], _∷_, _++_}
 use Prim.Native.Nat.{ℕ, zero, suc, _+_, _-_, _*_, _^_, _/_, _%_, _≤_, _<_}
-use native.Mathlib.Nat.{pow-suc, pow-le-pow-right, div-add-mod, mod-lt}
-use native.Mathlib.Numerals.{add-one}
+use native.Mathlib.Nat.{pow-suc, pow-le-pow-right}
 use native.Mathlib.Omega.{arith}
-use lib.ListN.{length, take, drop, getD, set}
-use lib.Seq.{sets, drop-drop, getD-drop, drop-cons}
+use lib.ListN.{length, take, drop, getD}
+use lib.Seq.{drop-drop, getD-drop}
 use Rattle.stream.specs.Bytes.{digits, word}
 
 pub digits-more : (w x : ℕ) → 0 < w → digits w x ≡ x % 256 ∷ digits (w - 1) (x / 256)

@@ -1,9 +1,8 @@
 -- What a reader of answers finds: a reply's numbers, from its bytes, whatever follows. Assumes nothing.
-use mathlib.Core.Path.{_≡_, refl, sym, ap, _∙_, subst}
-use mathlib.Core.List.{List, [], _∷_, _++_, append-assoc}
-use Prim.Native.Nat.{ℕ, suc, _+_, _-_, _^_, _≤_, _<_}
-use native.Mathlib.Omega.{arith}
-use lib.ListN.{length, take, drop}
+use mathlib.Core.Path.{_≡_, ap, _∙_}
+use mathlib.Core.List.{List, [], _++_, append-assoc}
+use Prim.Native.Nat.{ℕ, suc, _^_, _<_}
+use lib.ListN.{drop}
 use lib.Seq.{drop-at}
 use Rattle.stream.specs.Bytes.{word, digits}
 use Rattle.stream.specs.Reply.{bytesOf}

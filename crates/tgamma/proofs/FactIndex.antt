@@ -1,6 +1,6 @@
 -- A whole number x from 2 ^ -54 to 23 has a whole part from 1 to 23, so x - 1 is a place in FACT (`fact-index`). Assumes nothing.
 use mathlib.Core.Path.{_≡_, refl, sym, _∙_}
-use Prim.Native.Nat.{ℕ, zero, suc, _+_, _*_, _/_, _%_, _^_, _<_, _≤_}
+use Prim.Native.Nat.{ℕ, zero, suc, _+_, _*_, _/_, _%_, _<_, _≤_}
 use native.Mathlib.Nat.{div-add-mod', suc-mul, zero-mul}
 use native.Mathlib.Omega.{arith}
 use mathlib.Core.Bool.{true, false, true≢false}

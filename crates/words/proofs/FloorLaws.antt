@@ -3,7 +3,7 @@
 use mathlib.Core.Path.{_≡_, refl, sym, ap, _∙_, subst}
 use mathlib.Core.Logic.{inl, inr}
 use Prim.Native.Nat.{ℕ, zero, suc, _+_, _-_, _*_, _/_, _%_, _^_, _<_, _≤_}
-use native.Mathlib.Nat.{add-assoc, add-comm, add-zero, zero-add, div-le-self, add-le-add, le-refl, lt-suc-self, suc-mul, one-mul, mul-assoc, mul-right-comm, mul-pos, add-mul, zero-mul, zero-lt-suc, lt-irrefl, lt-trans, le-of-lt, mul-le-mul-right, mul-lt-mul-of-pos-right, lt-of-le-of-lt, eq-or-lt-of-le, eq-of-mul-eq-mul-right, div-add-mod', div-eq-of-lt, mod-eq-of-lt, mod-lt, mul-mod-left, div-lt-iff-lt-mul, add-mul-div-right, add-mul-mod-self-right}
+use native.Mathlib.Nat.{add-assoc, add-comm, add-zero, zero-add, div-le-self, add-le-add, le-refl, lt-suc-self, suc-mul, one-mul, mul-assoc, mul-right-comm, mul-pos, add-mul, zero-mul, zero-lt-suc, lt-irrefl, lt-trans, le-of-lt, mul-le-mul-right, mul-lt-mul-of-pos-right, lt-of-le-of-lt, eq-or-lt-of-le, div-add-mod', div-eq-of-lt, mod-eq-of-lt, mod-lt, div-lt-iff-lt-mul, add-mul-div-right, add-mul-mod-self-right}
 use native.Mathlib.Omega.{arith}
 use mathlib.Core.Bool.{Bool, true, false, cond}
 use lib.Arith.{digits-lt, digits-div}
@@ -18,6 +18,8 @@ use lib.Ieee.Fits.{down-pos, ofInt-fits}
 use lib.Ieee.Nearest.{div-same}
 use borrow.Author.Tests.{eq-eqb, ne-eqb, le-leb, lt-leb}
 use Rattle.rounding.proofs.BitOrder.{bitVal, hid-pos, endless, bits-open, val-lt}
+use Rattle.rounding.proofs.Grid.{pow-multiple}
+use Rattle.rounding.proofs.Signed.{value-shorter}
 use Rattle.words.specs.Floor.{floorS, below}
 use Rattle.words.proofs.PatternLaws.{weight, pattern-value, signed-value, fieldOf, rest-is, field-rest, carried}
 
@@ -64,13 +66,6 @@ falls f x y s d w W v h l F u =
     sym (floor-at f x s d w W v ∙ rw (ne-eqb (d % w) 0 h)
     (whole-unique f (ofInt f (below s (d / w))) y s (sizeBelow s (d / w)) (ofInt-fits f (below s (d / w))) F (below-value f s (d / w) l) u))
 
--- ---- another fraction of the same size
-shorter : (x : Float) (s : Bool) (d w p : ℕ) → 0 < p → HasValue x s (d * p) (w * p) → HasValue x s d w
-shorter (fin t m e) s d w p P v = (
-  v .0,
-  eq-of-mul-eq-mul-right p P (m * up e * w) (d * down e) (mul-assoc (m * up e) w p ∙ v .1 ∙ mul-right-comm d p (down e)),
-)
-
 -- ---- no fraction possible: from the field of 2 ^ (prec - 1) on
 abbrev pub wholeFrom : Format → ℕ
 wholeFrom f = emax f + (prec f - 1)
@@ -84,15 +79,6 @@ not-finite : (f : Format) (s : Bool) (x t : ℕ) → x ≡ ones f → ofFields f
 unfolding ofFields
 not-finite binary32 s x t e = subst (λ (z : ℕ). ofFields binary32 s z t ≡ floorS binary32 (ofFields binary32 s z t)) (sym e) (ends binary32 s (eqb t 0))
 not-finite binary64 s x t e = subst (λ (z : ℕ). ofFields binary64 s z t ≡ floorS binary64 (ofFields binary64 s z t)) (sym e) (ends binary64 s (eqb t 0))
-
--- a multiple of 2 ^ l leaves no remainder by 2 ^ l
-multiple : (d x l : ℕ) → l ≤ x → d * 2 ^ x % 2 ^ l ≡ 0
-multiple d x l h =
-    let e : x ≡ x - l + l = omega arith in
-    ap (λ (n : ℕ). d * 2 ^ n % 2 ^ l) e
-    ∙ ap (λ (n : ℕ). d * n % 2 ^ l) (pow-add 2 (x - l) l)
-    ∙ ap (λ (n : ℕ). n % 2 ^ l) (sym (mul-assoc d (2 ^ (x - l)) (2 ^ l)))
-    ∙ mul-mod-left (d * 2 ^ (x - l)) (2 ^ l)
 
 -- the value of a pattern with the field x + 1, in units
 value-at : (f : Format) (b x : ℕ) → fieldOf f b ≡ suc x → suc x < ones f → HasValue (ofBits f b) (leb (top f) b) ((hid f + b % hid f) * 2 ^ x) (2 ^ low f)
@@ -127,7 +113,7 @@ no-fraction f b h = elim (eq-or-lt-of-le (at-most f b)) [ inl e ↦ special e | 
     finite x e l =
         stays f (ofBits f b) (leb (top f) b) ((hid f + b % hid f) * 2 ^ x) (2 ^ low f) (pow-pos (low f))
         (value-at f b x e (subst (λ (n : ℕ). n < ones f) e l))
-        (multiple (hid f + b % hid f) x (low f) (deep f x (subst (λ (n : ℕ). wholeFrom f ≤ n) e h)))
+        (pow-multiple (hid f + b % hid f) x (low f) (deep f x (subst (λ (n : ℕ). wholeFrom f ≤ n) e h)))
 
 -- ---- size below one
 -- the pattern of 1
@@ -235,7 +221,7 @@ module _ (f : Format) (b k : ℕ) (p : Split f b k) where
   -- the size is (H + t) / 2 ^ k
   present : HasValue (ofBits f b) (leb (top f) b) (hid f + b % hid f) (2 ^ k)
   present =
-      shorter (ofBits f b) (leb (top f) b) (hid f + b % hid f) (2 ^ k) (2 ^ (p .x)) (pow-pos (p .x))
+      value-shorter (ofBits f b) (leb (top f) b) (hid f + b % hid f) (2 ^ k) (2 ^ (p .x)) (pow-pos (p .x))
       (subst (λ (n : ℕ). HasValue (ofBits f b) (leb (top f) b) ((hid f + b % hid f) * 2 ^ (p .x)) n) unit-is
       (value-at f b (p .x) (p .field) (lt-trans (lt-suc-self (suc (p .x))) (p .next))))
 
@@ -255,7 +241,7 @@ module _ (f : Format) (b k : ℕ) (p : Split f b k) where
       ap (λ (z : ℕ). (z + v * 2 ^ k) * 2 ^ (p .x)) hid-is
       ∙ ap (λ (z : ℕ). z * 2 ^ (p .x)) (sym (add-mul (2 ^ (p .j)) v (2 ^ k)))
       ∙ mul-assoc (2 ^ (p .j) + v) (2 ^ k) (2 ^ (p .x)) in
-      shorter y s (2 ^ (p .j) + v) 1 (2 ^ k * 2 ^ (p .x)) (mul-pos K-pos (pow-pos (p .x)))
+      value-shorter y s (2 ^ (p .j) + v) 1 (2 ^ k * 2 ^ (p .x)) (mul-pos K-pos (pow-pos (p .x)))
       (subst (λ (z : ℕ). HasValue y s ((2 ^ (p .j) + v) * (2 ^ k * 2 ^ (p .x))) z) (unit-is ∙ sym (one-mul (2 ^ k * 2 ^ (p .x))))
       (subst (λ (z : ℕ). HasValue y s z (2 ^ low f)) (carried (hid f) (p .x) (v * 2 ^ k) (hid-pos f) (at-most v h) ∙ e)
       (signed-value f s n (fine v h))))

@@ -5,7 +5,7 @@ use mathlib.Core.Path.{_≡_, refl, sym, ap, _∙_, subst}
 use mathlib.Core.Logic.{inl, inr}
 use mathlib.Core.Bool.{Bool, true, false, not, cond}
 use Prim.Native.Nat.{ℕ, zero, suc, _+_, _-_, _*_, _/_, _%_, _^_, _<_, _≤_, zero-le, compare, Ordering, Ordering·lt, Ordering·eq, Ordering·gt}
-use native.Mathlib.Nat.{le-refl, le-trans, le-of-lt, le-of-eq, eq-or-lt-of-le, lt-of-le-of-lt, lt-of-lt-of-le, mod-lt, mod-eq-of-lt, mul-one, mul-comm, mul-assoc, mul-right-comm, mul-le-mul-right, mul-lt-mul-of-pos-right, mul-pos, mul-add-div-right, mul-add-mod-self-right, div-lt-iff-lt-mul, le-div-iff-mul-le, pow-succ', div-eq-of-lt, add-sub-of-le, add-comm, one-mul}
+use native.Mathlib.Nat.{le-refl, le-trans, le-of-eq, eq-or-lt-of-le, lt-of-le-of-lt, lt-of-lt-of-le, mod-lt, mod-eq-of-lt, mul-one, mul-comm, mul-assoc, mul-right-comm, mul-le-mul-right, mul-lt-mul-of-pos-right, mul-pos, mul-add-div-right, mul-add-mod-self-right, div-lt-iff-lt-mul, le-div-iff-mul-le, pow-succ', div-eq-of-lt, add-sub-of-le, add-comm, one-mul}
 use native.Mathlib.Numerals.{add-one}
 use native.Mathlib.Omega.{arith}
 use lib.Arith.{lt-of-le-ne, le-zero}
@@ -20,7 +20,7 @@ use lib.Ieee.Exact.{HasValue}
 use lib.Ieee.Order.{drop, kept, round-mono}
 use lib.Ieee.Scale.{grid, overflow, round-same, round-val}
 use borrow.Author.Tests.{le-ltb}
-use Rattle.rounding.proofs.BitOrder.{scaled, bitVal, val-lt, endless, bits-val, bits-neg}
+use Rattle.rounding.proofs.BitOrder.{scaled, bitVal, val-lt, val-le, endless, bits-val, bits-neg}
 use Rattle.rounding.proofs.Grid.{pow-cancel-lt}
 use Rattle.rounding.proofs.Signed.{round-not}
 use Rattle.words.proofs.PatternLaws.{carried, same-value}
@@ -164,9 +164,6 @@ over-all nan h = absurd h
 over-all (inf true) h = absurd h
 over-all (inf false) h = refl
 over-all (fin s m e) h = absurd h
-
-val-le : (f : Format) (b c : ℕ) → b ≤ c → bitVal f b ≤ bitVal f c
-val-le f b c h = elim (eq-or-lt-of-le h) [ inl e ↦ le-of-eq (ap (bitVal f) e) | inr l ↦ le-of-lt (val-lt f b c l) ]
 
 from-2^128 : (b : ℕ) → 0x47f0000000000000 ≤ b → round binary32 false (bitVal binary64 b) (2 ^ 1074) ≡ inf false
 unfolding round

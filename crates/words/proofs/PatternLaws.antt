@@ -3,21 +3,21 @@
 use mathlib.Core.Path.{_≡_, refl, sym, ap, _∙_, subst}
 use mathlib.Core.Logic.{inl, inr}
 use Prim.Native.Nat.{ℕ, zero, suc, _+_, _-_, _*_, _/_, _%_, _^_, _<_, _≤_}
-use native.Mathlib.Nat.{add-zero, suc-mul, pow-succ', mul-assoc, eq-or-lt-of-le, zero-add, le-add-right, mod-eq-of-lt, add-mod-left, div-lt-iff-lt-mul, mul-one, mul-right-comm}
+use native.Mathlib.Nat.{add-zero, suc-mul, pow-succ', mul-assoc, eq-or-lt-of-le, zero-add, le-add-right, mod-eq-of-lt, add-mod-left, div-lt-iff-lt-mul, mul-right-comm}
 use native.Mathlib.Omega.{arith}
 use mathlib.Core.Bool.{Bool, true, false, not, cond}
 use lib.IntN.{ℤ}
-use lib.Dec.{T, leb, eqb, eqb→eq, not-T}
+use lib.Dec.{T, leb}
 use lib.Arith.{digits-div, digits-mod}
 use lib.Pow as Pow
-use lib.Ieee.{Float, nan, inf, fin, Format, binary32, binary64, prec, low, up, down, size, odd, hid, ones, top, toBits, ofFields, ofBits, isNan, nanBits, ne, eq, fits}
-use lib.Ieee.Bits.{cond-no, is-false, ofBits-toBits, toBits-lt, nanBits-is, nanBits-above}
+use lib.Ieee.{Float, nan, inf, fin, Format, binary32, binary64, prec, low, up, down, size, hid, ones, top, toBits, ofFields, ofBits, isNan, nanBits, ne, eq, fits}
+use lib.Ieee.Bits.{is-false, ofBits-toBits, nanBits-is, nanBits-above}
 use lib.Ieee.Compare.{differs-from-itself}
-use lib.Ieee.Exact.{HasValue, odd-sign}
+use lib.Ieee.Exact.{HasValue}
 use lib.Ieee.Fits.{down-pos}
 use lib.Ieee.Nearest.{div-same}
 use borrow.Author.Tests.{lt-ltb, le-ltb, le-leb, lt-leb, ltb-false}
-use Rattle.rounding.proofs.BitOrder.{scaled, bitVal, hid-pos, endless, under-top, bits-open}
+use Rattle.rounding.proofs.BitOrder.{fields-val, toBits-under, toBits-neg, scaled, bitVal, hid-pos, endless, under-top, bits-open}
 use Rattle.words.specs.Fabs.{fabsS}
 
 -- ---- the NaN
@@ -50,11 +50,6 @@ pub pattern-not-nan : (f : Format) (n : ℕ) → n % top f ≤ ones f * hid f �
 pattern-not-nan f n h = subst (λ (b : Bool). T (not b)) (sym (nanBits-above f n ∙ le-ltb _ _ h)) tt
 
 -- ---- the sign bit
-signed-pattern : (f : Format) (m : ℕ) (e : ℤ) → toBits f (fin true m e) ≡ top f + toBits f (fin false m e)
-unfolding toBits
-signed-pattern binary32 m e = omega arith
-signed-pattern binary64 m e = omega arith
-
 -- a sign neither makes a number fit nor keeps it from fitting
 pub fits-any-sign : (f : Format) (s t : Bool) (m : ℕ) (e : ℤ) → T (fits f (fin s m e)) → T (fits f (fin t m e))
 unfolding fits
@@ -62,12 +57,11 @@ fits-any-sign f s t zero e h = h
 fits-any-sign f s t (suc m) e h = h
 
 unsigned-lt : (f : Format) (m : ℕ) (e : ℤ) → T (fits f (fin false m e)) → toBits f (fin false m e) < top f
-unsigned-lt f m e h =
-    omega (arith, signed-pattern f m e, toBits-lt f (fin true m e) (fits-any-sign f false true m e h))
+unsigned-lt f m e h = under-top f (toBits f (fin false m e)) (toBits-under f m e h)
 
 pub unsigned-rest : (f : Format) (s : Bool) (m : ℕ) (e : ℤ) → T (fits f (fin false m e)) → toBits f (fin s m e) % top f ≡ toBits f (fin false m e)
 unsigned-rest f true m e h =
-    ap (λ (n : ℕ). n % top f) (signed-pattern f m e) ∙ add-mod-left (top f) _ ∙ mod-eq-of-lt (unsigned-lt f m e h)
+    ap (λ (n : ℕ). n % top f) (toBits-neg f m e) ∙ add-mod-left (top f) _ ∙ mod-eq-of-lt (unsigned-lt f m e h)
 unsigned-rest f false m e h = mod-eq-of-lt (unsigned-lt f m e h)
 
 -- ---- the pattern without its sign bit is the size's
@@ -92,19 +86,6 @@ size-pattern f (fin s m e) q =
     ap (ofBits f) (unsigned-rest f s m e h) ∙ ofBits-toBits f (fin false m e) h
 
 -- ---- the value of a pattern, in units of the format's smallest value
-differ : (a b : ℕ) → a < b → a ≡ b → ⊥
-differ a b h e = omega arith
-
-fields-value : (f : Format) (s : Bool) (x t : ℕ) → x < ones f → HasValue (ofFields f s x t) s (scaled x t (hid f)) (2 ^ low f)
-unfolding ofFields
-fields-value f s zero t h =
-    subst (λ (z : ℕ). HasValue (odd (prec f) s t 0 (low f)) s z (2 ^ low f)) (mul-one t) (odd-sign (prec f) s t 0 (low f))
-fields-value f s (suc x) t h =
-    subst (λ (z : Float). HasValue z s ((hid f + t) * 2 ^ x) (2 ^ low f))
-    (sym (cond-no (eqb (suc x) (ones f)) (cond (eqb t 0) (inf s) nan) (odd (prec f) s (hid f + t) x (low f))
-    (not-T (eqb (suc x) (ones f)) (λ (u : T (eqb (suc x) (ones f))). differ (suc x) (ones f) h (eqb→eq (suc x) (ones f) u)))))
-    (odd-sign (prec f) s (hid f + t) x (low f))
-
 -- the digits' field is the same with the sign bit and without
 digits-rest : (f : Format) (b : ℕ) → b % top f % hid f ≡ b % hid f
 digits-rest binary32 b = Pow.mod-mod-pow b 8 23
@@ -114,7 +95,7 @@ pub pattern-value : (f : Format) (b : ℕ) → b % top f < endless f → HasValu
 pattern-value f b h =
     subst (λ (z : Float). HasValue z (leb (top f) b) (bitVal f (b % top f)) (2 ^ low f))
     (sym (bits-open f b ∙ ap (ofFields f (leb (top f) b) (b % top f / hid f)) (sym (digits-rest f b))))
-    (fields-value f (leb (top f) b) (b % top f / hid f) (b % top f % hid f) (div-lt-iff-lt-mul (hid-pos f) .1 h))
+    (fields-val f (leb (top f) b) (b % top f / hid f) (b % top f % hid f) (div-lt-iff-lt-mul (hid-pos f) .1 h))
 
 -- the same of a pattern that is put together: the sign's weight, and n
 abbrev pub weight : Format → Bool → ℕ

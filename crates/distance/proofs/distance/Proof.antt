@@ -1,9 +1,8 @@
 -- `distance::distance` meets its contract. Assumes nothing.
-use mathlib.Core.Path.{_≡_, sym, ap, _∙_}
+use mathlib.Core.Path.{sym, ap, _∙_}
 use Prim.Native.Nat.{ℕ}
 use lib.Ieee.{binary64}
 use borrow.Author.Needs.{needs}
-use Rattle.distance.specs.declared.Apart.{Apart}
 use Rattle.distance.proofs.DistanceLaws.{first-nan, second-nan, no-nan}
 use Rattle.distance.proofs.distance.Statement.{statement}
 use Rattle.distance.proofs.distance.Tie as tie

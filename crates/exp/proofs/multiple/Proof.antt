@@ -1,7 +1,8 @@
 -- `exp::multiple` meets its contract. Assumes nothing.
 use mathlib.Core.Path.{_∙_}
+use mir.Syntax.{w32}
+use mir.ValLaws.{toZ-ofZ}
 use borrow.Author.Tests.{le-leb, lt-leb, eq-eqb, ne-eqb}
-use Rattle.scalbn.proofs.Exponents.{held}
 use Rattle.exp.specs.Exp.{multipleS}
 use borrow.Author.Needs.{needs, sfits-of}
 use Rattle.exp.proofs.multiple.Statement.{statement}
@@ -13,7 +14,7 @@ whole-requires c κs = search needs
 returns : tie.Need-returns
 unfolding multipleS
 returns c =
-    held (c .whole .result) (sfits-of (c .whole .ok))
+    toZ-ofZ w32 (c .whole .result) (sfits-of (c .whole .ok))
     ∙ simp (le-leb _ _ (c .before .before .if1 .taken), eq-eqb _ _ (c .before .if2 .taken)) (c .whole .ensures)
 
 whole-requires-2 : tie.Need-whole-requires-2
@@ -22,7 +23,7 @@ whole-requires-2 c κs = search needs
 returns-2 : tie.Need-returns-2
 unfolding multipleS
 returns-2 c =
-    held (c .whole2 .result) (sfits-of (c .whole2 .ok))
+    toZ-ofZ w32 (c .whole2 .result) (sfits-of (c .whole2 .ok))
     ∙ simp (le-leb _ _ (c .before .before .if1 .taken), ne-eqb _ _ (c .before .if2 .left)) (c .whole2 .ensures)
 
 returns-3 : tie.Need-returns-3

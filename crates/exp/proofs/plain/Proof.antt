@@ -1,6 +1,7 @@
 -- `exp::plain` meets its contract. Assumes nothing.
+use mir.Syntax.{w32}
+use mir.ValLaws.{toZ-ofZ}
 use borrow.Author.Tests.{lt-ltb, le-ltb}
-use Rattle.scalbn.proofs.Exponents.{held}
 use Rattle.exp.specs.Exp.{plainS}
 use borrow.Author.Needs.{needs, sfits-of}
 use Rattle.exp.proofs.plain.Statement.{statement}
@@ -16,7 +17,7 @@ returns : tie.Need-returns
 unfolding plainS
 returns c =
     let m = c .before .multiple in
-    simp (lt-ltb _ _ (c .before .before .if1 .taken)) (cc (held (m .result) (sfits-of (m .ok)), m .ensures, c .reduced .ensures))
+    simp (lt-ltb _ _ (c .before .before .if1 .taken)) (cc (toZ-ofZ w32 (m .result) (sfits-of (m .ok)), m .ensures, c .reduced .ensures))
 
 primary-requires : tie.Need-primary-requires
 primary-requires c κs = search needs

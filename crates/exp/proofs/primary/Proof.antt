@@ -1,7 +1,8 @@
 -- `exp::primary` meets its contract. Assumes nothing.
+use mir.Syntax.{w32}
+use mir.ValLaws.{toZ-ofZ}
 use borrow.Author.Tests.{eq-eqb, ne-eqb}
 use lib.IntN.{natAbs}
-use Rattle.scalbn.proofs.Exponents.{held}
 use Rattle.exp.specs.Exp.{primaryS}
 use Rattle.exp.proofs.Zero.{zero-of-bits, nonzero-of-bits}
 use borrow.Author.Needs.{needs}
@@ -27,7 +28,7 @@ returns-2 : tie.Need-returns-2
 unfolding primaryS
 returns-2 c =
     let s = c .before .before .before .before in
-    simp (ne-eqb (natAbs (s .args .k)) 0 (nonzero-of-bits (s .args .k) (c .before .if1 .left))) (cc (held (s .args .k) (s .fits .k)))
+    simp (ne-eqb (natAbs (s .args .k)) 0 (nonzero-of-bits (s .args .k) (c .before .if1 .left))) (cc (toZ-ofZ w32 (s .args .k) (s .fits .k)))
 
 pub primary-spec : {M : Type 1} → statement M
 primary-spec =

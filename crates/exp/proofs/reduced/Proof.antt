@@ -1,5 +1,6 @@
 -- `exp::reduced` meets its contract. Assumes nothing.
-use Rattle.scalbn.proofs.Exponents.{held}
+use mir.Syntax.{w32}
+use mir.ValLaws.{toZ-ofZ}
 use Rattle.exp.specs.Exp.{reducedS}
 use borrow.Author.Needs.{needs}
 use Rattle.exp.proofs.reduced.Statement.{statement}
@@ -18,7 +19,7 @@ returns : tie.Need-returns
 unfolding reducedS
 returns c =
     let s = c .before .before .before in
-    rw (held (s .args .k) (s .fits .k)) at (c .primary .ensures)
+    rw (toZ-ofZ w32 (s .args .k) (s .fits .k)) at (c .primary .ensures)
 
 pub reduced-spec : {M : Type 1} → statement M
 reduced-spec = tie.close (tie.spec int-to-float-hi int-to-float-lo primary-requires returns)

@@ -1,6 +1,5 @@
 -- `pow::infinite` meets its contract. Assumes nothing.
 use mathlib.Core.Path.{sym, _∙_}
-use native.Mathlib.Omega.{arith}
 use borrow.Author.Tests.{le-leb, lt-leb}
 use Rattle.pow.specs.Pow.{infiniteS}
 use borrow.Author.Needs.{needs}

@@ -1,5 +1,4 @@
 -- `pow::yisint` meets its contract. Assumes nothing.
-use native.Mathlib.Omega.{arith}
 use borrow.Author.Tests.{lt-ltb, le-ltb, le-leb, lt-leb, eq-eqb, ne-eqb}
 use Rattle.pow.specs.Pow.{yisintS}
 use borrow.Author.Needs.{needs}

@@ -1,10 +1,9 @@
 -- `pow_log::interval_three_halves` meets its contract. Assumes nothing.
 use mathlib.Core.Path.{ap, _∙_}
-use lib.IntN.{ℤ}
 use mir.Syntax.{w32}
 use mir.Val.{toZ, ofZ}
+use mir.ValLaws.{toZ-ofZ}
 use Rattle.pow_log.specs.Log2.{intervalS}
-use Rattle.pow_log.proofs.Integers.{held}
 use Rattle.pow_log.proofs.Laws.{interval-three-halves}
 use borrow.Author.Needs.{needs}
 use Rattle.pow_log.proofs.interval_three_halves.Statement.{statement}
@@ -28,7 +27,7 @@ series-requires c κs = search needs
 returns : tie.Need-returns
 returns c = let s = c .before .before .before .before in
     let a = s .args in
-    interval-three-halves (a .ax) (a .ix) (toZ w32 (ofZ w32 (a .n))) _ _ _ (c .before .before .with-set-high-word2 .ensures) (c .before .before .before .with-set-high-word .ensures) (c .series .ensures) ∙ ap (intervalS (a .ax) (a .ix) 1) (held (a .n) (s .fits .n))
+    interval-three-halves (a .ax) (a .ix) (toZ w32 (ofZ w32 (a .n))) _ _ _ (c .before .before .with-set-high-word2 .ensures) (c .before .before .before .with-set-high-word .ensures) (c .series .ensures) ∙ ap (intervalS (a .ax) (a .ix) 1) (toZ-ofZ w32 (a .n) (s .fits .n))
 
 pub interval-three-halves-spec : {M : Type 1} → statement M
 interval-three-halves-spec =

@@ -2,13 +2,14 @@
 use mathlib.Core.Path.{_≡_, ap, _∙_}
 use mathlib.Core.Bool.{true}
 use lib.Dec.{lit<, lit≤}
+use mir.ValLaws.{toZ-ofZ}
 use borrow.Author.Needs.{needs}
 use lib.IntN.{ℤ, pos, negsuc, _+ℤ_}
 use lib.Signed.{ltZ}
 use mir.Syntax.{w32}
 use mir.Val.{SFits}
 use Rattle.scalbn.specs.Scalbn.{downS}
-use Rattle.scalbn.proofs.Exponents.{local, held, held-sum, more-fits, more-below}
+use Rattle.scalbn.proofs.Exponents.{local, held-sum, more-fits, more-below}
 use Rattle.scalbn.proofs.down.Statement.{statement}
 use Rattle.scalbn.proofs.down.Tie as tie
 
@@ -26,7 +27,7 @@ n1-is : (s : tie.Start) → local (local (s .args .n) +ℤ pos 969) ≡ n1 s
 n1-is s = held-sum (s .args .n) (pos 969) (s .fits .n) (n1-fits s)
 
 n2-is : (s : tie.Start) → ltZ (n1 s) (negsuc 1021) ≡ true → local (local (local (s .args .n) +ℤ pos 969) +ℤ pos 969) ≡ n1 s +ℤ pos 969
-n2-is s t = ap (λ (v : ℤ). local (v +ℤ pos 969)) (n1-is s) ∙ held (n1 s +ℤ pos 969) (more (n1 s) (n1-fits s) t)
+n2-is s t = ap (λ (v : ℤ). local (v +ℤ pos 969)) (n1-is s) ∙ toZ-ofZ w32 (n1 s +ℤ pos 969) (more (n1 s) (n1-fits s) t)
 
 power-requires : tie.Need-power-requires
 power-requires c κs = search needs
@@ -37,7 +38,7 @@ power-requires-2 c κs = search needs
 add-n1 : tie.Need-add-n1
 add-n1 c =
     let s = c .before .before in
-    rw (held (s .args .n) (s .fits .n)) (n1-fits s)
+    rw (toZ-ofZ w32 (s .args .n) (s .fits .n)) (n1-fits s)
 
 add-n2 : tie.Need-add-n2
 add-n2 c =

@@ -1,14 +1,15 @@
 -- `scalbn::power` meets its contract. Assumes nothing.
 use mathlib.Core.Path.{_≡_, sym, ap, _∙_, subst}
 use native.Mathlib.Omega.{arith}
+use mir.ValLaws.{toZ-ofZ}
 use borrow.Author.Needs.{needs}
 use Prim.Native.Nat.{_*_}
 use lib.Dec.{T}
 use lib.IntN.{ℤ, pos, natAbs, _+ℤ_}
 use lib.Signed.{nonNeg}
-use mir.Syntax.{w64}
+use mir.Syntax.{w64, w32}
 use mir.Val.{Fits}
-use Rattle.scalbn.proofs.Exponents.{local, held, Field, field-of}
+use Rattle.scalbn.proofs.Exponents.{local, Field, field-of}
 use Rattle.scalbn.proofs.power.Statement.{statement}
 use Rattle.scalbn.proofs.power.Tie as tie
 
@@ -20,13 +21,13 @@ abbrev sum : tie.Start → ℤ
 sum c = pos 1023 +ℤ local (c .args .n)
 
 sum-is : (c : tie.Start) → sum c ≡ pos (field c .field)
-sum-is c = ap (λ (v : ℤ). pos 1023 +ℤ v) (held (c .args .n) (c .fits .n)) ∙ field c .is
+sum-is c = ap (λ (v : ℤ). pos 1023 +ℤ v) (toZ-ofZ w32 (c .args .n) (c .fits .n)) ∙ field c .is
 
 add-of-bits : tie.Need-add-of-bits
 add-of-bits c = rw (sum-is c) (record { sfits = omega (arith, field c .small) })
 
 local-is : (c : tie.Start) → local (sum c) ≡ pos (field c .field)
-local-is c = held (sum c) (add-of-bits c) ∙ sum-is c
+local-is c = toZ-ofZ w32 (sum c) (add-of-bits c) ∙ sum-is c
 
 cast-of-bits : tie.Need-cast-of-bits
 cast-of-bits c =

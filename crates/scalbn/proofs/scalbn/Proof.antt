@@ -1,13 +1,15 @@
 -- `scalbn::scalbn` meets its contract. Assumes nothing.
 use mathlib.Core.Path.{_≡_}
+use mir.Syntax.{w32}
+use mir.ValLaws.{toZ-ofZ}
 use borrow.Author.Needs.{needs}
 use Rattle.scalbn.specs.Scalbn.{scalbnS}
-use Rattle.scalbn.proofs.Exponents.{local, held}
+use Rattle.scalbn.proofs.Exponents.{local}
 use Rattle.scalbn.proofs.scalbn.Statement.{statement}
 use Rattle.scalbn.proofs.scalbn.Tie as tie
 
 n-is : (s : tie.Start) → local (s .args .n) ≡ s .args .n
-n-is s = held (s .args .n) (s .fits .n)
+n-is s = toZ-ofZ w32 (s .args .n) (s .fits .n)
 
 up-requires : tie.Need-up-requires
 up-requires c κs = search needs

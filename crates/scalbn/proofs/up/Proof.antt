@@ -1,13 +1,14 @@
 -- `scalbn::up` meets its contract. Assumes nothing.
 use mathlib.Core.Path.{_≡_, ap, _∙_}
 use mathlib.Core.Bool.{true}
+use mir.ValLaws.{toZ-ofZ}
 use borrow.Author.Needs.{needs}
 use lib.IntN.{ℤ, pos, negsuc, _+ℤ_}
 use lib.Signed.{ltZ}
 use mir.Syntax.{w32}
 use mir.Val.{SFits}
 use Rattle.scalbn.specs.Scalbn.{upS}
-use Rattle.scalbn.proofs.Exponents.{local, held, held-sum, less-fits, less-above}
+use Rattle.scalbn.proofs.Exponents.{local, held-sum, less-fits, less-above}
 use Rattle.scalbn.proofs.up.Statement.{statement}
 use Rattle.scalbn.proofs.up.Tie as tie
 
@@ -22,13 +23,13 @@ n1-is : (s : tie.Start) → local (local (s .args .n) +ℤ negsuc 1022) ≡ n1 s
 n1-is s = held-sum (s .args .n) (negsuc 1022) (s .fits .n) (n1-fits s)
 
 n2-is : (s : tie.Start) → ltZ (pos 1023) (n1 s) ≡ true → local (local (local (s .args .n) +ℤ negsuc 1022) +ℤ negsuc 1022) ≡ n1 s +ℤ negsuc 1022
-n2-is s t = ap (λ (v : ℤ). local (v +ℤ negsuc 1022)) (n1-is s) ∙ held (n1 s +ℤ negsuc 1022) (less-fits 1022 (n1 s) (n1-fits s) t)
+n2-is s t = ap (λ (v : ℤ). local (v +ℤ negsuc 1022)) (n1-is s) ∙ toZ-ofZ w32 (n1 s +ℤ negsuc 1022) (less-fits 1022 (n1 s) (n1-fits s) t)
 
 power-requires : tie.Need-power-requires
 power-requires c κs = search needs
 
 sub-n1 : tie.Need-sub-n1
-sub-n1 c = rw (held (c .before .args .n) (c .before .fits .n)) (n1-fits (c .before))
+sub-n1 c = rw (toZ-ofZ w32 (c .before .args .n) (c .before .fits .n)) (n1-fits (c .before))
 
 power-requires-2 : tie.Need-power-requires-2
 power-requires-2 c κs = search needs

@@ -1,5 +1,5 @@
 -- `serve::turns` meets its contract: the turns are counted down, and the buffers keep their lengths. Assumes nothing.
-use Prim.Native.Nat.{_*_, _≤_}
+use Prim.Native.Nat.{_≤_}
 use mathlib.Core.Path.{_≡_, refl}
 use mathlib.Core.Logic.{inl, inr}
 use borrow.Author.Needs.{needs}

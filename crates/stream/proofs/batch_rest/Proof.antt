@@ -1,5 +1,5 @@
 -- `stream::batch_rest` meets its contract: the tail from the count of bytes read on. Assumes nothing.
-use mathlib.Core.Path.{_≡_, refl, ap}
+use mathlib.Core.Path.{ap}
 use Prim.Native.Nat.{ℕ, _+_}
 use lib.ListN.{length}
 use Rattle.stream.specs.Kinds.{table}

@@ -1,12 +1,11 @@
 -- `stream::step` meets its contract: the tests that led to each return say which case of `one` it is. Assumes nothing.
-use mathlib.Core.Path.{_≡_, refl, sym, ap, _∙_, subst}
-use mathlib.Core.List.{List}
+use mathlib.Core.Path.{_≡_, sym, ap, _∙_, subst}
 use Prim.Native.Nat.{ℕ, _+_, _-_, _<_, _^_}
 use native.Mathlib.Omega.{arith}
 use lib.ListN.{length, drop, getD}
 use Rattle.stream.specs.Bytes.{word}
 use Rattle.stream.specs.Reply.{bytesOf}
-use Rattle.stream.specs.Run.{one, choose, rowIn}
+use Rattle.stream.specs.Run.{rowIn}
 use Rattle.stream.specs.Kinds.{table}
 use Rattle.stream.proofs.StepLaws.{at-end, at-unknown, at-cut, at-full, at-whole, did-stop, did-took, length-bytes}
 use borrow.Author.Needs.{needs}

@@ -1,8 +1,7 @@
 -- `stream::write_reply` meets its contract: three runs of stores, one after the other. Assumes nothing.
-use mathlib.Core.Path.{_≡_, refl, sym, ap, _∙_}
+use mathlib.Core.Path.{_∙_}
 use native.Mathlib.Omega.{arith}
-use lib.ListN.{length, set, length-set}
-use lib.Seq.{length-sets}
+use lib.ListN.{length-set}
 use Rattle.stream.proofs.StepLaws.{length-bytes, wrote}
 use borrow.Author.Needs.{needs}
 use Rattle.stream.proofs.write_reply.Statement.{statement}

@@ -1,5 +1,6 @@
 -- `lgamma::from2::below8` meets its contract. Assumes nothing.
-use Rattle.scalbn.proofs.Exponents.{held}
+use mir.Syntax.{w32}
+use mir.ValLaws.{toZ-ofZ}
 use Rattle.lgamma.specs.Plan.{below8S}
 use borrow.Author.Needs.{needs, sfits-of}
 use Rattle.lgamma.proofs.from2.below8.Statement.{statement}
@@ -33,7 +34,7 @@ returns : tie.Need-returns
 unfolding below8S
 returns c =
     let w = c .before .before .before .before .before .before .before .before .whole in
-    let i = held (w .result) (sfits-of (w .ok)) in
+    let i = toZ-ofZ w32 (w .result) (sfits-of (w .ok)) in
     let h = c .before .before .before in
     rw
     (c .log .ensures, c .before .product .ensures, h .horner2 .ensures, h .before .before .horner .ensures, i, w .ensures)
@@ -43,7 +44,7 @@ returns-2 : tie.Need-returns-2
 unfolding below8S
 returns-2 c =
     let w = c .before .before .before .before .before .before .whole in
-    let i = held (w .result) (sfits-of (w .ok)) in
+    let i = toZ-ofZ w32 (w .result) (sfits-of (w .ok)) in
     let h = c .before in
     rw
     (h .horner2 .ensures, h .before .before .horner .ensures, i, w .ensures)

@@ -1,5 +1,6 @@
 -- `lgamma::from2::product` meets its contract. Assumes nothing.
-use Rattle.scalbn.proofs.Exponents.{held}
+use mir.Syntax.{w32}
+use mir.ValLaws.{toZ-ofZ}
 use Rattle.lgamma.specs.Plan.{productS}
 use borrow.Author.Needs.{needs}
 use Rattle.lgamma.proofs.from2.product.Statement.{statement}
@@ -22,7 +23,7 @@ unfolding productS
 returns c =
     let s = c .before .before .before .before in
     rw
-    (c .times4 .ensures, c .before .times3 .ensures, c .before .before .times2 .ensures, c .before .before .before .times .ensures, held (s .args .i) (s .fits .i))
+    (c .times4 .ensures, c .before .times3 .ensures, c .before .before .times2 .ensures, c .before .before .before .times .ensures, toZ-ofZ w32 (s .args .i) (s .fits .i))
 
 pub product-spec : {M : Type 1} → statement M
 product-spec =

@@ -2,7 +2,7 @@
 use mathlib.Core.Path.{_≡_, refl, sym, ap, _∙_}
 use Prim.Native.Nat.{ℕ, _-_}
 use native.Mathlib.Omega.{arith}
-use lib.ListN.{length, take, drop, length-set}
+use lib.ListN.{take, drop}
 use Rattle.serve.proofs.ShiftLaws.{Moved, moved-more}
 use Rattle.serve.proofs.relay.shift.Statement.{statement}
 use Rattle.serve.proofs.relay.shift.Tie as tie

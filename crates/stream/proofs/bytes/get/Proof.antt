@@ -1,9 +1,9 @@
 -- `stream::bytes::get` meets its contract: what was read so far is the word of the bytes passed, from the top down. Assumes nothing.
 use mathlib.Core.Path.{_≡_, sym, _∙_}
-use Prim.Native.Nat.{ℕ, suc, _+_, _-_, _*_, _^_, _≤_, _<_}
+use Prim.Native.Nat.{ℕ, suc, _+_, _-_, _^_, _≤_, _<_}
 use borrow.Author.Needs.{needs}
 use native.Mathlib.Omega.{arith}
-use lib.ListN.{length, drop, getD}
+use lib.ListN.{drop, getD}
 use Rattle.stream.specs.Bytes.{word}
 use Rattle.stream.proofs.ByteLaws.{word-more, byte-more, below-64}
 use Rattle.stream.proofs.bytes.get.Statement.{statement}

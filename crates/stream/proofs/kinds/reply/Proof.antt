@@ -1,6 +1,5 @@
 -- `stream::kinds::reply` meets its contract: an arm's key picks the row, and the call gives its value. Assumes nothing.
 use mathlib.Core.Path.{_≡_, sym, ap}
-use Prim.Native.Nat.{ℕ}
 use native.Mathlib.Omega.{arith}
 use borrow.Author.Needs.{needs}
 use Rattle.stream.specs.Run.{Row, noRow, rowIn}
