@@ -18,7 +18,8 @@ use Rattle.words.specs.Fabs.{fabsS}
 use Rattle.words.specs.Whole.{wholeS}
 use Rattle.words.proofs.CutLaws.{word-from, word-upto, sign-of}
 use Rattle.words.proofs.WholeBounds.{number, Minus, whole-minus}
-use Rattle.exp.specs.Exp.{HALF, INVLN2, multipleS, reducedS, plainS, expS}
+use Rattle.exp.specs.Plan.{multipleS, reducedS, plainS}
+use Rattle.exp.specs.Exp.{exp64, expS}
 use Rattle.exp.proofs.Cells.{product, quotient, over-low, under-high, least, one, cell-range}
 
 -- -190 and -5.5
@@ -38,28 +39,28 @@ word-in m e F i =
     (word-from x F tt 0x4016000000000000 (lit< tt) (le-neg x to55 (i .1)), word-upto x F tt 0x4067C00000000000 (lit< tt) (le-neg from190 x (i .0)))
 
 -- from a size of 1.5 ln 2 on, k is the quotient's whole part
-branch : (x : Float) (hx : ℕ) → 0x40160000 ≤ hx → plainS x hx 1 ≡ reducedS x (wholeS (quotient x))
+branch : (x : Float) (hx : ℕ) → 0x40160000 ≤ hx → plainS exp64 x hx 1 ≡ reducedS exp64 x (wholeS (quotient x))
 unfolding plainS multipleS quotient product
 branch x hx h = simp (lt-ltb 0x3FD62E42 hx (omega arith), le-leb 0x3FF0A2B2 hx (omega arith))
 
 -- so exp is the reduction by that k
 taken : (m : ℕ) (e : ℤ) → T (fits binary64 (fin true m e)) → In from190 to55 (fin true m e)
-    → expS (fin true m e) ≡ reducedS (fin true m e) (wholeS (quotient (fin true m e)))
+    → expS (fin true m e) ≡ reducedS exp64 (fin true m e) (wholeS (quotient (fin true m e)))
 unfolding expS
 taken m e F i =
     let x = fin true m e in
     let w = word-in m e F i in
-    simp (lt-leb 0x4086232B (sizeWordS x) (omega arith)) (ap (plainS x (sizeWordS x)) (sign-of binary64 true m e F) ∙ branch x (sizeWordS x) (w .0))
+    simp (lt-leb 0x4086232B (sizeWordS x) (omega arith)) (ap (plainS exp64 x (sizeWordS x)) (sign-of binary64 true m e F) ∙ branch x (sizeWordS x) (w .0))
 
 -- ---- the multiple
 productE : Expr
-productE = times (con INVLN2) (var 0)
+productE = times (con (exp64 .INVLN2)) (var 0)
 
 product-test : T (rangeTest binary64 (number true 275) (number true 7) productE [] from190 to55)
 unfolding productE ieval ofBits mul le
 product-test = tt
 
-quotient-test : T (rangeTest binary64 (number true 275) (number true 8) (plus productE (con (HALF 1))) [] from190 to55)
+quotient-test : T (rangeTest binary64 (number true 275) (number true 8) (plus productE (con (exp64 .minusHalf))) [] from190 to55)
 unfolding productE ieval ofBits add mul le
 quotient-test = tt
 
@@ -69,10 +70,10 @@ product-in x i = range binary64 (number true 275) (number true 7) productE [] []
 
 quotient-in : (x : Float) → In from190 to55 x → In (number true 275) (number true 8) (quotient x)
 unfolding productE product quotient eval
-quotient-in x i = range binary64 (number true 275) (number true 8) (plus productE (con (HALF 1))) [] [] from190 to55 x quotient-test tt i
+quotient-in x i = range binary64 (number true 275) (number true 8) (plus productE (con (exp64 .minusHalf))) [] [] from190 to55 x quotient-test tt i
 
 -- ---- the bounds
-reduced-range : (x : Float) → T (finite x) → In from190 to55 x → In least one (reducedS x (wholeS (quotient x)))
+reduced-range : (x : Float) → T (finite x) → In from190 to55 x → In least one (reducedS exp64 x (wholeS (quotient x)))
 reduced-range x X i = go (w .q) (w .is) (w .from) (w .upto) (w .reached) (w .short)
   where
     w : Minus 8 275 (quotient x)
@@ -85,7 +86,7 @@ reduced-range x X i = go (w .q) (w .is) (w .from) (w .upto) (w .reached) (w .sho
     U = between-finite (number true 275) (product x) (number true 7) tt tt (p .0) (p .1)
 
     go : (q : ℕ) → wholeS (quotient x) ≡ negℤ (pos q) → 8 ≤ q → q ≤ 275 → T (le (quotient x) (number true q))
-        → (T (le (quotient x) (number true (suc q))) → ⊥) → In least one (reducedS x (wholeS (quotient x)))
+        → (T (le (quotient x) (number true (suc q))) → ⊥) → In least one (reducedS exp64 x (wholeS (quotient x)))
     go zero e h k r s = absurd (none h)
       where
         none : 8 ≤ 0 → ⊥

@@ -22,16 +22,17 @@ use Rattle.words.specs.F64.{_⊕_, _⊖_, _⊗_}
 use Rattle.words.proofs.WholeBounds.{number}
 use Rattle.scalbn.specs.Scalbn.{power2, scalbnS}
 use Rattle.scalbn.proofs.OneProduct.{one-product, power-le}
-use Rattle.exp.specs.Exp.{HALF, LN2HI, LN2LO, INVLN2, primaryS, reducedS}
+use Rattle.exp.specs.Plan.{primaryS, reducedS}
+use Rattle.exp.specs.Exp.{exp64}
 use Rattle.exp.proofs.Unscaled.{unscaled, unscaled-range, hiMin, hiMax, loMin, loMax, quarter, four}
 
 -- INVLN2 * x, and what k is the whole part of, for an x below 0
 unfoldable pub product : Float → Float
-product x = INVLN2 ⊗ x
+product x = exp64 .INVLN2 ⊗ x
 
 unfoldable pub quotient : Float → Float
 unfolding product
-quotient x = product x ⊕ HALF 1
+quotient x = product x ⊕ exp64 .minusHalf
 
 -- k as a float
 unfoldable multiple : ℕ → Float
@@ -76,10 +77,10 @@ highOk j = not (le (quotient (highEnd j)) (number true (suc j)))
 
 -- hi and lo as data: in hi x is variable 0 and k variable 1, in lo k is variable 0
 hiE : Expr
-hiE = minus (var 0) (times (var 1) (con LN2HI))
+hiE = minus (var 0) (times (var 1) (con (exp64 .LN2HI)))
 
 loE : Expr
-loE = times (var 0) (con LN2LO)
+loE = times (var 0) (con (exp64 .LN2LO))
 
 hiOk : ℕ → Bool
 hiOk j = rangeTest binary64 hiMin hiMax hiE (some (multiple j) (multiple j) ∷ []) (lowEnd j) (highEnd j)
@@ -111,14 +112,14 @@ lo-ok = tt
 product-mono : (x y : Float) → T (finite x) → T (finite y) → T (le x y) → T (le (product x) (product y))
 unfolding product ofBits
 product-mono x y X Y h =
-    rw (mul-commutes binary64 INVLN2 x, mul-commutes binary64 INVLN2 y)
+    rw (mul-commutes binary64 (exp64 .INVLN2) x, mul-commutes binary64 (exp64 .INVLN2) y)
     (mul-mono-plus binary64 x y 3248660424278399 (negsuc 50) X Y h)
 
 quotient-mono : (x y : Float) → T (finite x) → T (finite y) → T (finite (product x)) → T (finite (product y)) → T (le x y)
     → T (le (quotient x) (quotient y))
 unfolding quotient ofBits
 quotient-mono x y X Y U W h =
-    add-mono binary64 (product x) (product y) (HALF 1) (HALF 1) U W tt tt (product-mono x y X Y h) (le-refl (HALF 1) tt)
+    add-mono binary64 (product x) (product y) (exp64 .minusHalf) (exp64 .minusHalf) U W tt tt (product-mono x y X Y h) (le-refl (exp64 .minusHalf) tt)
 
 module _ (j : ℕ) (from : 7 ≤ j) (upto : j ≤ 274) where
   here : (p : ℕ → Bool) → T (all p 268 7) → T (p j)
@@ -181,12 +182,12 @@ scale-range j y h k i =
     (range binary64 least one scaleE powers (power2 binary64 (negsuc j) ∷ []) quarter four y scale-test
     ((tt, tt, power-le binary64 j 274 k (lit≤ tt), power-le binary64 7 j h (omega arith)), tt) i)
 
-primary-is : (hi lo : Float) (j : ℕ) → primaryS (hi ⊖ lo) hi lo (negsuc j) ≡ scalbnS binary64 (unscaled hi lo) (negsuc j)
+primary-is : (hi lo : Float) (j : ℕ) → primaryS exp64 (hi ⊖ lo) hi lo (negsuc j) ≡ scalbnS binary64 (unscaled hi lo) (negsuc j)
 unfolding primaryS unscaled
 primary-is hi lo j = simp (ne-eqb (suc j) 0 (λ e. omega arith))
 
 -- between the ends the answer for k lies from 2 ^ -300 to 1
-pub cell-range : (j : ℕ) (x : Float) → 7 ≤ j → j ≤ 274 → In (lowEnd j) (highEnd j) x → In least one (reducedS x (negsuc j))
+pub cell-range : (j : ℕ) (x : Float) → 7 ≤ j → j ≤ 274 → In (lowEnd j) (highEnd j) x → In least one (reducedS exp64 x (negsuc j))
 unfolding reducedS multiple hiOk loOk hiE loE eval
 cell-range j x h k i =
     let K = multiple j in
@@ -194,8 +195,8 @@ cell-range j x h k i =
     let t = here j h k loOk lo-ok in
     let finite-K = and-l (finite K) lo-test t in
     let K-K = le-refl K finite-K in
-    let hi = x ⊖ K ⊗ LN2HI in
-    let lo = K ⊗ LN2LO in
+    let hi = x ⊖ K ⊗ exp64 .LN2HI in
+    let lo = K ⊗ exp64 .LN2LO in
     let hi-in =
     range binary64 hiMin hiMax hiE (some K K ∷ []) (K ∷ []) (lowEnd j) (highEnd j) x (here j h k hiOk hi-ok)
     ((finite-K, finite-K, K-K, K-K), tt) i in

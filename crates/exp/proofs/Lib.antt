@@ -1,6 +1,8 @@
 -- The laws that the proofs of `exp` cite, and those that callers cite.
 -- Zero: whether an i32 is zero
 pub mod Zero
+-- ExpCode: what the returns of the code that exp and expf share give
+pub mod ExpCode
 -- Unscaled: bounds of the answer in the primary range, before it is scaled
 pub mod Unscaled
 -- Cells: bounds of the answer for each multiple of ln 2 from -8 to -275

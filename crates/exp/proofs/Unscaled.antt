@@ -7,17 +7,16 @@ use lib.Dec.{T}
 use lib.Ieee.{Float, fin, binary64, ofBits, add, sub, mul, div, le}
 use Rattle.rounding.proofs.Interval.{some}
 use Rattle.rounding.proofs.Range.{Expr, var, con, plus, minus, times, over, share, eval, ieval, In, rangeTest, range}
-use Rattle.words.specs.F64.{_⊕_, _⊖_, _⊗_, _⊘_, bits}
+use Rattle.words.specs.F64.{_⊖_, _⊗_, bits}
 use Rattle.poly.specs.Horner.{hornerS}
-use Rattle.exp.specs.Exp.{P}
+use Rattle.exp.specs.Exp.{exp64}
+use Rattle.exp.proofs.ExpCode.{yOf}
 
 -- y of primaryS, for x = hi - lo
 unfoldable pub unscaled : Float → Float → Float
 unscaled hi lo =
     let x = hi ⊖ lo in
-    let xx = x ⊗ x in
-    let c = x ⊖ xx ⊗ hornerS binary64 P xx in
-    bits 0x3FF0000000000000 ⊕ (x ⊗ c ⊘ (bits 0x4000000000000000 ⊖ c) ⊖ lo ⊕ hi)
+    yOf exp64 (hornerS binary64 (exp64 .P) (x ⊗ x)) x hi lo
 
 -- -3/8 and 3/8
 abbrev pub hiMin : Float

@@ -1,6 +1,9 @@
-// exp.
+// exp. In f32: single.
+pub mod single;
+
 ghost use mathlib.Core.Path.{_≡_};
-ghost use Rattle.exp.specs.Exp.{primaryS, multipleS, reducedS, plainS, specialS, expS};
+ghost use Rattle.exp.specs.Plan.{primaryS, multipleS, reducedS, plainS};
+ghost use Rattle.exp.specs.Exp.{exp64, specialS, expS};
 use poly::horner;
 use scalbn::scalbn;
 use words::bits::sign;
@@ -32,7 +35,7 @@ const VANISHES: f64 = -745.13321910194110842;
 
 // x is now in primary range.
 fn primary(x: f64, hi: f64, lo: f64, k: i32) -> f64
-    ensures { λ r. ⌜ r ≡ primaryS x hi lo k ⌝ }
+    ensures { λ r. ⌜ r ≡ primaryS exp64 x hi lo k ⌝ }
 {
     let xx = x * x;
     let c = x - xx * horner(&P, xx);
@@ -41,7 +44,7 @@ fn primary(x: f64, hi: f64, lo: f64, k: i32) -> f64
 }
 
 fn multiple(x: f64, hx: u32, sign: u32) -> i32
-    ensures { λ r. ⌜ r ≡ multipleS x hx sign ⌝ }
+    ensures { λ r. ⌜ r ≡ multipleS exp64 x hx sign ⌝ }
 {
     if hx >= 0x3ff0a2b2 {
         if sign == 0 {
@@ -56,7 +59,7 @@ fn multiple(x: f64, hx: u32, sign: u32) -> i32
 }
 
 fn reduced(x: f64, k: i32) -> f64
-    ensures { λ r. ⌜ r ≡ reducedS x k ⌝ }
+    ensures { λ r. ⌜ r ≡ reducedS exp64 x k ⌝ }
 {
     let hi = x - k as f64 * LN2HI;
     let lo = k as f64 * LN2LO;
@@ -65,7 +68,7 @@ fn reduced(x: f64, k: i32) -> f64
 
 // Argument reduction.
 fn plain(x: f64, hx: u32, sign: u32) -> f64
-    ensures { λ r. ⌜ r ≡ plainS x hx sign ⌝ }
+    ensures { λ r. ⌜ r ≡ plainS exp64 x hx sign ⌝ }
 {
     if hx > 0x3fd62e42 {
         return reduced(x, multiple(x, hx, sign));

@@ -1,10 +1,11 @@
 -- A small number and the exponent of a field are small together, so their sum is an i32. Assumes nothing.
-use Prim.Native.Nat.{ℕ, suc, _+_, _-_, _^_, _<_, _≤_}
+use Prim.Native.Nat.{ℕ, zero, suc, _+_, _-_, _^_, _<_, _≤_}
 use native.Mathlib.Omega.{arith}
 use mathlib.Core.Path.{_≡_, refl, sym, ap, _∙_, subst}
 use mathlib.Core.Bool.{Bool, true, false, cond}
-use lib.Dec.{ltb}
+use lib.Dec.{T, ltb, le→leb, lt→ltb}
 use lib.IntN.{ℤ, pos, negsuc, natAbs, subℕ, _+ℤ_, _-ℤ_}
+use lib.Ieee.{binary32, inFloat}
 use borrow.Author.Tests.{ltb-true}
 use mir.Syntax.{w32}
 use mir.Val.{SFits, toZ, ofZ}
@@ -23,6 +24,19 @@ sum-size (pos a) (negsuc b) = difference-size a (suc b)
 sum-size (negsuc a) (pos b) = omega (arith, difference-size b (suc a))
 sum-size (negsuc a) (negsuc b) = omega arith
 
+field-size : (e b : ℕ) → natAbs (pos e -ℤ pos b) ≤ e + b
+field-size e zero = omega arith
+field-size e (suc b) = difference-size e (suc b)
+
+pub sum-small : (e b : ℕ) → e < 8192 → b < 8192 → (k : ℤ) → natAbs k < 64 → natAbs (k +ℤ (pos e -ℤ pos b)) < 2 ^ 24
+sum-small e b h i k s = omega (arith, s, h, i, sum-size k (pos e -ℤ pos b), field-size e b)
+
+-- f32 holds it
+pub small-exact : (z : ℤ) → natAbs z < 2 ^ 24 → T (inFloat binary32 z)
+unfolding inFloat
+small-exact (pos n) h = le→leb n (2 ^ 24) (omega (arith, h))
+small-exact (negsuc n) h = lt→ltb n (2 ^ 24) (omega (arith, h))
+
 small-fits : (z : ℤ) → natAbs z < 2 ^ 31 → SFits w32 z
 small-fits (pos n) h = record { sfits = h }
 small-fits (negsuc n) h = record { sfits = omega (arith, h) }
@@ -31,27 +45,29 @@ small-fits (negsuc n) h = record { sfits = omega (arith, h) }
 abbrev pub held : ℤ → ℤ
 held z = toZ w32 (ofZ w32 z)
 
--- the exponent of the field e
-abbrev power : ℕ → ℤ
-power e = toZ w32 e -ℤ pos 0x3FF
+-- the exponent of the field e, where 1's field is b
+abbrev power : ℕ → ℕ → ℤ
+power e b = toZ w32 e -ℤ toZ w32 b
 
-power-is : (e : ℕ) → e < 8192 → power e ≡ subℕ e 0x3FF
-power-is e h = ap (λ (z : ℤ). z -ℤ pos 0x3FF) (toZ-pos w32 e (omega (arith, h)))
+module _ (e b : ℕ) (h : e < 8192) (i : b < 8192) where
+  power-is : power e b ≡ pos e -ℤ pos b
+  power-is =
+      ap (λ (z : ℤ). z -ℤ toZ w32 b) (toZ-pos w32 e (omega (arith, h)))
+      ∙ ap (λ (z : ℤ). pos e -ℤ z) (toZ-pos w32 b (omega (arith, i)))
 
-pub power-fits : (e : ℕ) → e < 8192 → SFits w32 (power e)
-power-fits e h =
-    subst (SFits w32) (sym (power-is e h)) (small-fits (subℕ e 0x3FF) (omega (arith, h, difference-size e 0x3FF)))
+  pub power-fits : SFits w32 (power e b)
+  power-fits =
+      subst (SFits w32) (sym power-is) (small-fits (pos e -ℤ pos b) (omega (arith, h, i, field-size e b)))
 
-sum-is : (k : ℤ) (e : ℕ) → SFits w32 k → e < 8192 → held k +ℤ held (power e) ≡ k +ℤ subℕ e 0x3FF
-sum-is k e f h =
-    ap (λ (z : ℤ). z +ℤ held (power e)) (toZ-ofZ w32 k f)
-    ∙ ap (λ (z : ℤ). k +ℤ z) (toZ-ofZ w32 (power e) (power-fits e h) ∙ power-is e h)
+  module _ (k : ℤ) (f : SFits w32 k) where
+    sum-is : held k +ℤ held (power e b) ≡ k +ℤ (pos e -ℤ pos b)
+    sum-is =
+        ap (λ (z : ℤ). z +ℤ held (power e b)) (toZ-ofZ w32 k f)
+        ∙ ap (λ (z : ℤ). k +ℤ z) (toZ-ofZ w32 (power e b) power-fits ∙ power-is)
 
-pub sum-fits : (k : ℤ) (e : ℕ) → SFits w32 k → natAbs k < 64 → e < 8192 → SFits w32 (held k +ℤ held (power e))
-sum-fits k e f s h =
-    let d = subℕ e 0x3FF in
-    subst (SFits w32) (sym (sum-is k e f h))
-    (small-fits (k +ℤ d) (omega (arith, s, h, sum-size k d, difference-size e 0x3FF)))
+    pub sum-fits : natAbs k < 64 → SFits w32 (held k +ℤ held (power e b))
+    sum-fits s =
+        subst (SFits w32) (sym sum-is) (small-fits (k +ℤ (pos e -ℤ pos b)) (omega (arith, sum-small e b h i k s)))
 
-pub sum-held : (k : ℤ) (e : ℕ) → SFits w32 k → natAbs k < 64 → e < 8192 → held (held k +ℤ held (power e)) ≡ k +ℤ subℕ e 0x3FF
-sum-held k e f s h = toZ-ofZ w32 (held k +ℤ held (power e)) (sum-fits k e f s h) ∙ sum-is k e f h
+    pub sum-held : natAbs k < 64 → held (held k +ℤ held (power e b)) ≡ k +ℤ (pos e -ℤ pos b)
+    sum-held s = toZ-ofZ w32 (held k +ℤ held (power e b)) (sum-fits s) ∙ sum-is

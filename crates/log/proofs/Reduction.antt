@@ -1,30 +1,28 @@
--- The parts that `reduced` puts together, and the definition. Assumes nothing.
+-- The parts that the reduction puts together, and the definition, over the plan. Assumes nothing.
 use Prim.Native.Nat.{ℕ, _+_, _-_, _*_, _/_, _%_, _^_}
 use mathlib.Core.Path.{_≡_, ap, _∙_}
 use lib.IntN.{ℤ, pos, _+ℤ_, _-ℤ_}
-use lib.Ieee.{Float}
+use lib.Ieee.{Float, ofBits}
 use mir.Syntax.{w32}
 use mir.Val.{SFits}
 use mir.ValLaws.{toZ-ofZ}
-use Rattle.words.specs.F64.{bits}
 use Rattle.log.proofs.Exponents.{held}
-use Rattle.log.specs.Log.{nearS, reducedS}
+use Rattle.log.specs.Plan.{Plan, nearS, reducedS}
 
--- the high word, moved so that the exponent's field counts from sqrt(2)/2
-abbrev moved : ℕ → ℕ
-moved ui = ui / 2 ^ 32 + (0x3FF00000 - 0x3FE6A09E)
-
+-- hx is the upper word, moved so that the exponent's field counts from sqrt(2)/2; n is the pattern of the number reduced
 pub reduced-of :
-    (ui : ℕ) (k k' : ℤ) (x r : Float)
+    (p : Plan) (ui hx n : ℕ) (k k' : ℤ) (x r : Float)
     → SFits w32 k
     → SFits w32 k'
-    → k' ≡ held k +ℤ (pos (moved ui / 2 ^ 20) -ℤ pos 0x3FF)
-    → x ≡ bits ((moved ui % 2 ^ 20 + 0x3FE6A09E) * 2 ^ 32 + ui % 2 ^ 32)
-    → r ≡ nearS x (held k')
-    → r ≡ reducedS ui k
+    → k' ≡ held k +ℤ (pos (hx / 2 ^ p .fraction) -ℤ pos (p .bias))
+    → x ≡ ofBits (p .format) n
+    → r ≡ nearS p x (held k')
+    → hx ≡ ui / 2 ^ p .below + (p .at1 - p .root)
+    → n ≡ (hx % 2 ^ p .fraction + p .root) * 2 ^ p .below + ui % 2 ^ p .below
+    → r ≡ reducedS p ui k
 unfolding reducedS
-reduced-of ui k k' x r s s' p q e =
-    let d = pos (moved ui / 2 ^ 20) -ℤ pos 0x3FF in
-    let p' : k' ≡ k +ℤ d = p ∙ ap (λ (z : ℤ). z +ℤ d) (toZ-ofZ w32 k s) in
-    let e' : r ≡ nearS x k' = e ∙ ap (nearS x) (toZ-ofZ w32 k' s') in
-    rw (e', p', q)
+reduced-of p ui hx n k k' x r s s' c q e h d =
+    let t = pos (hx / 2 ^ p .fraction) -ℤ pos (p .bias) in
+    let c' : k' ≡ k +ℤ t = c ∙ ap (λ (z : ℤ). z +ℤ t) (toZ-ofZ w32 k s) in
+    let e' : r ≡ nearS p x k' = e ∙ ap (nearS p x) (toZ-ofZ w32 k' s') in
+    rw (e', c', q, d, h)

@@ -1,63 +1,70 @@
--- The definition of log in each region that the code tells apart by the pattern ui and its high word. Assumes nothing.
+-- The definition in each region that the code tells apart by the pattern ui and its upper word hx, over the plan. Assumes nothing.
 use Prim.Native.Nat.{ℕ, _/_, _%_, _^_, _<_, _≤_}
 use native.Mathlib.Omega.{arith}
 use mathlib.Core.Path.{_≡_, refl, sym, ap, _∙_}
 use mathlib.Core.Bool.{Bool, true, false, _&&_, _||_}
 use lib.Dec.{ltb, leb, eqb}
 use lib.IntN.{pos, negℤ}
-use lib.Ieee.{Float, binary64, toBits}
+use lib.Ieee.{Float, binary32, binary64, top, sub, mul, div, toBits}
 use borrow.Author.Tests.{lt-ltb, le-ltb, le-leb, lt-leb, eq-eqb, ne-eqb, ltb-false}
-use Rattle.words.specs.F64.{_⊖_, _⊗_, _⊘_, bits}
-use Rattle.log.specs.Log.{reducedS, logS}
+use Rattle.log.specs.Plan.{Plan, reducedS, logS}
+use Rattle.log.specs.Log.{log64}
+use Rattle.log.specs.Logf.{log32}
 
--- below the normal numbers, or with the sign bit
-abbrev apart : ℕ → Bool
-apart hx = ltb hx 0x00100000 || leb (2 ^ 31) hx
+-- ui is the pattern of x, hx what is above its lower bits, lx those
+pub record Pattern (p : Plan) (x : Float) (ui hx lx : ℕ) : Type 0 where
+  pub all : ui ≡ toBits (p .format) x
+  pub upper : hx ≡ ui / 2 ^ p .below
+  pub lower : lx ≡ ui % 2 ^ p .below
 
-apart-where : (hx : ℕ) → (0x00100000 ≤ hx → 2 ^ 31 ≤ hx) → apart hx ≡ true
-apart-where hx h = go (ltb hx 0x00100000) refl
-  where
-    go : (t : Bool) → ltb hx 0x00100000 ≡ t → (t || leb (2 ^ 31) hx) ≡ true
-    go true e = refl
-    go false e = le-leb _ _ (h (ltb-false _ _ e))
+pub pattern64 : (x : Float) (ui : ℕ) → ui ≡ toBits binary64 x → Pattern log64 x ui (ui / 2 ^ 32) (ui % 2 ^ 32)
+pattern64 x ui e = record { all = e; upper = refl; lower = refl }
 
-pub at-zero : (x : Float) (ui : ℕ) → ui ≡ toBits binary64 x → ui % 2 ^ 63 ≡ 0 → bits 0xBFF0000000000000 ⊘ (x ⊗ x) ≡ logS x
-unfolding logS
-at-zero x ui e z = rw (sym e) (simp (apart-where (ui / 2 ^ 32) (λ h. omega (arith, h, z)), eq-eqb _ _ z))
+-- in f32 hx is all of it
+pub pattern32 : (x : Float) (ui : ℕ) → ui ≡ toBits binary32 x → Pattern log32 x ui ui 0
+pattern32 x ui e = record { all = e; upper = omega arith; lower = omega arith }
 
-pub negative :
-    (x : Float) (ui : ℕ) → ui ≡ toBits binary64 x → (ui % 2 ^ 63 ≡ 0 → ⊥) → 2 ^ 31 ≤ ui / 2 ^ 32
-    → (x ⊖ x) ⊘ bits 0 ≡ logS x
-unfolding logS
-negative x ui e z h = rw (sym e) (simp (le-ltb (ui / 2 ^ 32) 0x00100000 (omega (arith, h)), le-leb _ _ h, ne-eqb _ _ z))
+module _ (p : Plan) (x : Float) (ui hx lx : ℕ) (i : Pattern p x ui hx lx) where
+  -- below the normal numbers, or with the sign bit
+  apart : (p .normal ≤ hx → 2 ^ 31 ≤ hx) → (ltb hx (p .normal) || leb (2 ^ 31) hx) ≡ true
+  apart h = go (ltb hx (p .normal)) refl
+    where
+      go : (t : Bool) → ltb hx (p .normal) ≡ t → (t || leb (2 ^ 31) hx) ≡ true
+      go true e = refl
+      go false e = le-leb _ _ (h (ltb-false _ _ e))
 
-pub subnormal :
-    (x : Float) (ui scaled : ℕ) (r : Float) → ui ≡ toBits binary64 x → (ui % 2 ^ 63 ≡ 0 → ⊥) → ui / 2 ^ 32 < 0x00100000
-    → scaled ≡ toBits binary64 (x ⊗ bits 0x4350000000000000)
-    → r ≡ reducedS scaled (negℤ (pos 54))
-    → r ≡ logS x
-unfolding logS
-subnormal x ui scaled r e z h p q =
-    q
-    ∙ ap (λ (n : ℕ). reducedS n (negℤ (pos 54))) p
-    ∙ rw (sym e) (simp (lt-ltb _ _ h, lt-leb (2 ^ 31) (ui / 2 ^ 32) (omega (arith, h)), ne-eqb _ _ z))
+  pub at-zero : (p .normal ≤ hx → 2 ^ 31 ≤ hx) → ui % top (p .format) ≡ 0 → div (p .format) (p .minusOne) (mul (p .format) x x) ≡ logS p x
+  unfolding logS
+  at-zero h z = rw (sym (i .all), sym (i .upper)) (simp (apart h, eq-eqb _ _ z))
 
--- infinity and NaN
-pub not-finite :
-    (x : Float) (ui : ℕ) → ui ≡ toBits binary64 x → 0x7FF00000 ≤ ui / 2 ^ 32 → ui / 2 ^ 32 < 2 ^ 31 → x ≡ logS x
-unfolding logS
-not-finite x ui e h s =
-    rw (sym e) (simp (le-ltb (ui / 2 ^ 32) 0x00100000 (omega (arith, h)), lt-leb _ _ s, le-leb _ _ h))
+  pub negative : (ui % top (p .format) ≡ 0 → ⊥) → 2 ^ 31 ≤ hx → div (p .format) (sub (p .format) x x) (p .zero) ≡ logS p x
+  unfolding logS
+  negative z h = rw (sym (i .all), sym (i .upper)) (simp (apart (λ _. h)) (simp (le-leb _ _ h, ne-eqb _ _ z)))
 
-pub at-one : (x : Float) (ui : ℕ) → ui ≡ toBits binary64 x → ui / 2 ^ 32 ≡ 0x3FF00000 → ui % 2 ^ 32 ≡ 0 → bits 0 ≡ logS x
-unfolding logS
-at-one x ui e h z = rw (sym e) (simp (h, z))
+  pub subnormal :
+      (scaled : ℕ) (r : Float) → (ui % top (p .format) ≡ 0 → ⊥) → hx < p .normal → hx < 2 ^ 31
+      → scaled ≡ toBits (p .format) (mul (p .format) x (p .x1pUp))
+      → r ≡ reducedS p scaled (negℤ (pos (p .up)))
+      → r ≡ logS p x
+  unfolding logS
+  subnormal scaled r z h s e q =
+      q
+      ∙ ap (λ (n : ℕ). reducedS p n (negℤ (pos (p .up)))) e
+      ∙ rw (sym (i .all), sym (i .upper)) (simp (lt-ltb _ _ h, lt-leb _ _ s, ne-eqb _ _ z))
 
-pub normal :
-    (x : Float) (ui : ℕ) (r : Float) → ui ≡ toBits binary64 x → 0x00100000 ≤ ui / 2 ^ 32 → ui / 2 ^ 32 < 0x7FF00000
-    → (eqb (ui / 2 ^ 32) 0x3FF00000 && eqb (ui % 2 ^ 32) 0) ≡ false
-    → r ≡ reducedS ui (pos 0)
-    → r ≡ logS x
-unfolding logS
-normal x ui r e h s n q =
-    q ∙ rw (sym e) (simp (le-ltb _ _ h, lt-leb (2 ^ 31) (ui / 2 ^ 32) (omega (arith, s)), lt-leb _ _ s, n))
+  module _ (h : p .normal ≤ hx) (s : hx < 2 ^ 31) where
+    -- infinity and NaN
+    pub not-finite : p .notFinite ≤ hx → x ≡ logS p x
+    unfolding logS
+    not-finite n = rw (sym (i .all), sym (i .upper)) (simp (le-ltb _ _ h, lt-leb _ _ s, le-leb _ _ n))
+
+    pub at-one : hx < p .notFinite → hx ≡ p .at1 → lx ≡ 0 → p .zero ≡ logS p x
+    unfolding logS
+    at-one n o z =
+        rw (sym (i .all), sym (i .upper), sym (i .lower))
+        (simp (le-ltb _ _ h, lt-leb _ _ s, lt-leb _ _ n, eq-eqb _ _ o, eq-eqb _ _ z))
+
+    pub normal : (r : Float) → hx < p .notFinite → (eqb hx (p .at1) && eqb lx 0) ≡ false → r ≡ reducedS p ui (pos 0) → r ≡ logS p x
+    unfolding logS
+    normal r n o q =
+        q ∙ rw (sym (i .all), sym (i .upper), sym (i .lower)) (simp (le-ltb _ _ h, lt-leb _ _ s, lt-leb _ _ n, o))

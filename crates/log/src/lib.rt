@@ -1,8 +1,11 @@
-// The natural logarithm in f64, as the Rust's log.rs has it.
-ghost use Prim.Native.Nat.{_<_};
+// The natural logarithm in f64, as the Rust's log.rs has it; in f32 in `single`.
+pub mod single;
+
+ghost use Prim.Native.Nat.{_^_, _<_};
 ghost use mathlib.Core.Path.{_≡_};
 ghost use lib.IntN.{pos, natAbs, _+ℤ_, _-ℤ_};
-ghost use Rattle.log.specs.Log.{nearS, reducedS, logS};
+ghost use Rattle.log.specs.Plan.{nearS, reducedS};
+ghost use Rattle.log.specs.Log.{log64, logS};
 use poly::horner;
 use words::bits::bits_of;
 use words::bits::of_bits;
@@ -30,7 +33,7 @@ const LG_ODD: [f64; 4] = [
 
 // log of x * 2 ^ k, for an x from sqrt(2)/2 to sqrt(2).
 fn near(x: f64, k: i32) -> f64
-    ensures { λ r. ⌜ r ≡ nearS x k ⌝ }
+    ensures { λ r. ⌜ r ≡ nearS log64 x k ⌝ }
 {
     let f = x - 1.0;
     let hfsq = 0.5 * f * f;
@@ -44,22 +47,24 @@ fn near(x: f64, k: i32) -> f64
     s * (hfsq + r) + dk * LN2_LO - hfsq + f + dk * LN2_HI
 }
 
-// k and the exponent whose field is e.
-fn exponent(k: i32, e: u64) -> i32
+// k and the exponent whose field is e, where 1's is bias.
+fn exponent(k: i32, e: u64, bias: u64) -> i32
     requires { ⌜ natAbs k < 64 ⌝ }
     requires { ⌜ e < 8192 ⌝ }
-    ensures { λ r. ⌜ r ≡ k +ℤ (pos e -ℤ pos 0x3FF) ⌝ }
+    requires { ⌜ bias < 8192 ⌝ }
+    ensures { λ r. ⌜ r ≡ k +ℤ (pos e -ℤ pos bias) ⌝ }
+    ensures { λ r. ⌜ natAbs r < 2 ^ 24 ⌝ }
 {
-    k + (e as i32 - 0x3ff)
+    k + (e as i32 - bias as i32)
 }
 
 // Reduces the number whose pattern is ui into [sqrt(2)/2, sqrt(2)].
 fn reduced(ui: u64, k: i32) -> f64
     requires { ⌜ natAbs k < 64 ⌝ }
-    ensures { λ r. ⌜ r ≡ reducedS ui k ⌝ }
+    ensures { λ r. ⌜ r ≡ reducedS log64 ui k ⌝ }
 {
     let hx = ui / 0x1_0000_0000 + (0x3ff0_0000 - 0x3fe6_a09e);
-    let k = exponent(k, hx / 0x10_0000);
+    let k = exponent(k, hx / 0x10_0000, 0x3ff);
     let hx = hx % 0x10_0000 + 0x3fe6_a09e;
     near(of_bits(hx * 0x1_0000_0000 + ui % 0x1_0000_0000), k)
 }

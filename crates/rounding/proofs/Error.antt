@@ -1,24 +1,26 @@
 -- How far one rounding lies from the exact result, in whole numbers of the format's smallest unit: half of 2 ^ K units at most,
 -- for a result below 2 ^ (prec + K) units. `grid` is the kit's name for what a fraction is rounded to, in units.
 --   `closest-near`: the nearest multiple of u to a whole number; `grid-near`: a fraction; `units-near`: a whole number of units;
---   `round-value`: a rounding has the value `grid`, with the sign that it is given; `add-near`: a sum, and how far it is off.
+--   `round-value`: a rounding has the value `grid`, with the sign that it is given; `add-near`: a sum, and how far it is off;
+--   `fall-near`: the same of a sum above zero of a value above zero and one that is not;
+--   `digits-above`: a K with which 2 ^ K is at most a 64th of a fraction; `round-near`: so the error is small in proportion.
 -- Assumes nothing.
-use mathlib.Core.Path.{_≡_, sym, ap, _∙_, subst}
+use mathlib.Core.Path.{_≡_, refl, sym, ap, _∙_, subst}
 use Prim.Native.Nat.{ℕ, _+_, _-_, _*_, _/_, _%_, _^_, _≤_, _<_, compare, Ordering, Ordering·lt, Ordering·eq, Ordering·gt}
-use native.Mathlib.Nat.{le-of-eq, le-trans, lt-of-le-of-lt, mul-comm, mul-assoc, one-mul, suc-mul, add-mul, mul-pos}
+use native.Mathlib.Nat.{le-of-eq, le-trans, lt-of-le-of-lt, lt-of-lt-of-le, mul-comm, mul-assoc, one-mul, mul-one, suc-mul, add-mul, mul-pos}
 use native.Mathlib.Nat.{mul-le-mul-right, mul-le-mul-left, mul-lt-mul-of-pos-right, le-of-mul-le-mul-right}
-use native.Mathlib.Nat.{div-add-mod', mod-lt, div-lt-iff-lt-mul}
+use native.Mathlib.Nat.{div-add-mod', mod-lt, div-lt-iff-lt-mul, le-div-iff-mul-le}
 use native.Mathlib.Omega.{arith}
 use mathlib.Core.Bool.{Bool, true, false, not}
-use lib.Dec.{T, isLe, isEq, leb→le, nleb→lt, eqb→eq}
-use lib.Pow.{pow-pos, pow-mono}
-use lib.Ieee.{Float, Format, prec, low, nearest, round, add, size}
-use lib.Ieee.Digits.{size-le}
+use lib.Dec.{T, lit≤, ltb, ltb→lt, nltb→le, isLe, isEq, leb→le, nleb→lt, eqb→eq}
+use lib.Pow.{pow-pos, pow-add, pow-mono}
+use lib.Ieee.{Float, Format, binary32, binary64, prec, low, nearest, round, add, size}
+use lib.Ieee.Digits.{size-le, size-lt, size-reaches}
 use lib.Ieee.Fits.{round-is}
 use lib.Ieee.Exact.{HasValue, units-val}
 use lib.Ieee.Nearest.{closest}
 use lib.Ieee.Order.{drop, kept}
-use lib.Ieee.Scale.{grid, overflow}
+use lib.Ieee.Scale.{grid, overflow, finite, round-under}
 use Rattle.rounding.proofs.Signed.{P, N}
 use Rattle.rounding.proofs.Fraction.{sum-is}
 use Rattle.rounding.proofs.Units.{add-units}
@@ -130,3 +132,90 @@ add-near f x y s X t Y K v w h k =
   where
     small : (G q A E O : ℕ) → 2 * G ≤ 2 * q + E → q ≤ A → A + E < O → G < O
     small G q A E O a b c = omega arith
+
+-- ---- a value above zero and one that is not
+
+-- ±B is not above zero: it is -b
+abbrev pub Falls : Bool → ℕ → ℕ → Type 0
+Falls s B b = (P s B ≡ 0) × (N s B ≡ b)
+
+one-side : (u : Bool) (G A : ℕ) (s : Bool) (B b E : ℕ) → Falls s B b → NearSum u G false A s B E → 2 * b + E < 2 * A
+    → (u ≡ false) × (2 * (G + b) ≤ 2 * A + E) × (2 * A ≤ 2 * (G + b) + E)
+one-side false G A s B b E w n h =
+    let p = w .0 in
+    let q = w .1 in
+    let n0 = n .0 in
+    let n1 = n .1 in
+    (refl, omega arith, omega arith)
+one-side true G A s B b E w n h =
+    let p = w .0 in
+    let q = w .1 in
+    let n1 = n .1 in
+    absurd (omega arith)
+
+-- A units and -b units: A - b units but for half of 2 ^ K units at most
+pub fall-near : (f : Format) (x t : Float) (A : ℕ) (s : Bool) (B b K : ℕ) → HasValue x false A (2 ^ low f) → HasValue t s B (2 ^ low f)
+    → Falls s B b → 2 * b + 2 ^ K < 2 * A → A + b < 2 ^ (prec f + K) → A + b + 2 ^ K < overflow f
+    → (G : ℕ) × HasValue (add f x t) false G (2 ^ low f) × (2 * (G + b) ≤ 2 * A + 2 ^ K) × (2 * A ≤ 2 * (G + b) + 2 ^ K)
+fall-near f x t A s B b K v w z h k o =
+    let B-is : B ≡ b = all s B b z in
+    let S =
+    add-near f x t false A s B K v w (subst (λ (y : ℕ). A + y < 2 ^ (prec f + K)) (sym B-is) k)
+    (subst (λ (y : ℕ). A + y + 2 ^ K < overflow f) (sym B-is) o) in
+    let R = one-side (S .0) (S .1) A s B b (2 ^ K) z (S .3) h in
+    (S .1, subst (λ (u : Bool). HasValue (add f x t) u (S .1) (2 ^ low f)) (R .0) (S .2), R .1, R .2)
+  where
+    all : (s : Bool) (B b : ℕ) → Falls s B b → B ≡ b
+    all false B b z = let p = z .0 in let q = z .1 in omega arith
+    all true B b z = z .1
+
+-- ---- errors in proportion
+
+-- the digits of n / c above the first p, for a fraction of 64 or more: 2 ^ K is at most a 64th of it
+pub digits-above : (p n c : ℕ) → 7 ≤ p → 0 < c → 64 * c ≤ n → (K : ℕ) × (n < 2 ^ (p + K) * c) × (64 * (c * 2 ^ K) ≤ n)
+digits-above p n c P C h =
+    let z = size (n / c) in (
+      z - p,
+      lt-of-lt-of-le (div-lt-iff-lt-mul C .0 (size-lt (n / c))) (mul-le-mul-right c (pow-mono (enough z p))),
+      part (size (n / c)) (ltb p (size (n / c))) (ltb→lt p (size (n / c))) (nltb→le p (size (n / c))) (size-reaches (n / c)),
+    )
+  where
+    enough : (z p : ℕ) → z ≤ p + (z - p)
+    enough z p = omega arith
+
+    none : (z p : ℕ) → z ≤ p → z - p ≡ 0
+    none z p h = omega arith
+
+    fewer : (z p : ℕ) → p < z → 7 ≤ p → 6 + (z - p) ≤ z - 1
+    fewer z p h k = omega arith
+
+    before : (z p : ℕ) → p < z → z - 1 < z
+    before z p h = omega arith
+
+    regroup : (c K : ℕ) → 64 * (c * K) ≡ 64 * K * c
+    regroup c K = ap (λ (y : ℕ). 64 * y) (mul-comm c K) ∙ sym (mul-assoc 64 K c)
+
+    part : (z : ℕ) (b : Bool) → (T b → p < z) → (T (not b) → z ≤ p) → ((j : ℕ) → j < z → 2 ^ j ≤ n / c) → 64 * (c * 2 ^ (z - p)) ≤ n
+    part z false k l r = subst (λ (K : ℕ). 64 * (c * 2 ^ K) ≤ n) (sym (none z p (l tt))) (le-trans (le-of-eq (ap (λ (y : ℕ). 64 * y) (mul-one c))) h)
+    part z true k l r =
+        le-trans (le-of-eq (regroup c (2 ^ (z - p))))
+        (le-trans (mul-le-mul-right c (le-trans (le-of-eq (sym (pow-add 2 6 (z - p)))) (pow-mono (fewer z p (k tt) P))))
+        (le-div-iff-mul-le C .0 (r (z - 1) (before z p (k tt)))))
+
+-- a rounding of 64 units or more, with no overflow, is off by a 128th at most
+pub round-near : (f : Format) (a c : ℕ) → 0 < c → 64 * c ≤ a * 2 ^ low f → T (finite (round f false a c))
+    → (G : ℕ) × HasValue (round f false a c) false G (2 ^ low f) × (128 * (G * c) ≤ 129 * (a * 2 ^ low f)) × (127 * (a * 2 ^ low f) ≤ 128 * (G * c))
+round-near f a c C h F =
+    let n = a * 2 ^ low f in
+    let G = grid f a c in
+    let D = digits-above (prec f) n c (seven f) C h in
+    let k = grid-near f a c (D .0) C (D .1) in
+    let b = bounds (G * c) n (c * 2 ^ (D .0)) (k .0) (k .1) (D .2) in
+    (G, round-value f false a c (round-under f a c F), b .0, b .1)
+  where
+    seven : (f : Format) → 7 ≤ prec f
+    seven binary32 = lit≤ tt
+    seven binary64 = lit≤ tt
+
+    bounds : (W n E : ℕ) → 2 * W ≤ 2 * n + E → 2 * n ≤ 2 * W + E → 64 * E ≤ n → (128 * W ≤ 129 * n) × (127 * n ≤ 128 * W)
+    bounds W n E h k l = (omega arith, omega arith)

@@ -1,17 +1,20 @@
 -- The order `le` on floats:
 --   `le-refl`, `le-total`, `le-trans`: it is reflexive and total on finite values, and transitive on all;
+--   `lt-le`, `le-of-not-lt`, `not-lt-of-le`: `lt` is the order without equality;
 --   `between-finite`, `neg-finite`: what lies between finite values is finite, and so is the negative of one;
 --   `Between`, `between-bounds`: to lie between two values, one way round or the other.
 -- Assumes nothing.
+use mathlib.Core.Path.{_≡_, refl}
 use mathlib.Core.Logic.{_⊎_, inl, inr}
 use Prim.Native.Nat.{ℕ, _+_, _*_, _≤_, _<_}
 use native.Mathlib.Omega.{arith}
-use mathlib.Core.Bool.{Bool, true, false, not}
+use mathlib.Core.Bool.{Bool, true, false, not, _||_}
 use lib.Dec.{T, T-not, ltb, ltb→lt, nltb→le}
-use lib.Ieee.{Float, nan, inf, fin, up, down, neg, le}
+use lib.Ieee.{Float, nan, inf, fin, up, down, neg, le, lt, eq}
 use lib.Ieee.Fits.{down-pos}
 use lib.Ieee.Scale.{finite}
-use Rattle.rounding.proofs.Signed.{P, N, Le-refl, Le-trans, le→Le, Le→le}
+use borrow.Author.Tests.{le-ltb}
+use Rattle.rounding.proofs.Signed.{P, N, Le-refl, Le-trans, le→Le, Le→le, le-signed}
 
 -- a finite value is at most itself
 pub le-refl : (x : Float) → T (finite x) → T (le x x)
@@ -63,6 +66,47 @@ le-total (fin s m e) (fin t n d) p q h = go (ltb R L) (ltb→lt R L) (nltb→le 
     go : (b : Bool) → (T b → R < L) → (T (not b) → L ≤ R) → T (le (fin t n d) (fin s m e))
     go true k l = let x = k tt in Le→le t n d s m e (omega arith)
     go false k l = absurd (T-not (le (fin s m e) (fin t n d)) h (Le→le s m e t n d (l tt)))
+
+-- ---- `lt`, the strict order
+
+-- what is below y is at most y
+pub lt-le : (x y : Float) → T (lt x y) → T (le x y)
+unfolding le
+lt-le x y h = go (lt x y) h
+  where
+    go : (b : Bool) → T b → T (b || eq x y)
+    go true t = tt
+    go false t = absurd t
+
+-- a finite x that is not below y is at least y
+pub le-of-not-lt : (x y : Float) → T (finite x) → T (finite y) → T (not (lt x y)) → T (le y x)
+unfolding lt
+le-of-not-lt nan y X Y h = absurd X
+le-of-not-lt (inf s) y X Y h = absurd X
+le-of-not-lt (fin s m e) nan X Y h = absurd Y
+le-of-not-lt (fin s m e) (inf t) X Y h = absurd Y
+le-of-not-lt (fin false m e) (fin false n d) X Y h =
+    let k = nltb→le (m * up e * down d) (n * up d * down e) h in Le→le false n d false m e (omega arith)
+le-of-not-lt (fin false m e) (fin true n d) X Y h = le-signed (fin true n d) (fin false m e) refl refl
+le-of-not-lt (fin true m e) (fin false n d) X Y h =
+    let k = nltb→le 0 (m * up e * down d + n * up d * down e) h in Le→le false n d true m e (omega arith)
+le-of-not-lt (fin true m e) (fin true n d) X Y h =
+    let k = nltb→le (n * up d * down e) (m * up e * down d) h in Le→le true n d true m e (omega arith)
+
+-- what is at least y is not below y
+pub not-lt-of-le : (x y : Float) → T (finite x) → T (finite y) → T (le y x) → lt x y ≡ false
+unfolding lt
+not-lt-of-le nan y X Y h = absurd X
+not-lt-of-le (inf s) y X Y h = absurd X
+not-lt-of-le (fin s m e) nan X Y h = absurd Y
+not-lt-of-le (fin s m e) (inf t) X Y h = absurd Y
+not-lt-of-le (fin false m e) (fin false n d) X Y h =
+    let k = le→Le false n d false m e h in le-ltb (m * up e * down d) (n * up d * down e) (omega arith)
+not-lt-of-le (fin false m e) (fin true n d) X Y h = refl
+not-lt-of-le (fin true m e) (fin false n d) X Y h =
+    let k = le→Le false n d true m e h in le-ltb 0 (m * up e * down d + n * up d * down e) (omega arith)
+not-lt-of-le (fin true m e) (fin true n d) X Y h =
+    let k = le→Le true n d true m e h in le-ltb (n * up d * down e) (m * up e * down d) (omega arith)
 
 -- ---- finite values
 

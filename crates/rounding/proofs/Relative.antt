@@ -1,11 +1,11 @@
 -- Bounds in proportion to an operand, down to the subnormals:
 --   `mul-le-self`, `self-le-mul`: z * x is at most x for a z up to 1, and at least x for a z from 1 on, where x has no minus sign;
---   `mul-quarter`: v * c lies from -x/4 to 0, for v from 0 to x and c from -1/4 to 0;
+--   `mul-part`: v * c lies from x * p to 0, for v from 0 to x and c from p to 0, p a negative power of two below zero (`part-exact`: x * p is exact);
 --   `add-quarter`: x + t lies from half of x to x and is above zero, for t from -x/4 to 0; `add-nothing`: the same for a t that is a zero;
---   `zero-le`: what has no minus sign is at least zero.
+--   `zero-le`: what has no minus sign is at least zero; `power-below`: a value from a negative power of two on, in whole numbers.
 -- Assumes nothing.
 use mathlib.Core.Path.{_≡_, ap, _∙_, subst}
-use Prim.Native.Nat.{ℕ, _+_, _*_, _^_, _≤_, _<_}
+use Prim.Native.Nat.{ℕ, suc, _+_, _*_, _^_, _≤_, _<_}
 use native.Mathlib.Nat.{zero-mul, one-mul, mul-one, mul-comm, mul-assoc, mul-left-comm, mul-right-comm, mul-add, add-mul, mul-pos}
 use native.Mathlib.Omega.{arith}
 use mathlib.Core.Bool.{true, false, true≢false, false≢true}
@@ -17,7 +17,7 @@ use lib.Ieee.Fits.{up-pos, down-pos}
 use lib.Ieee.Exact.{HasValue}
 use lib.Ieee.Scale.{finite}
 use lib.Ieee.Positive.{positive, between, positive-of-value}
-use Rattle.rounding.proofs.Signed.{P, N, Le-refl, Le→le, round-Le, Signed, value-finite}
+use Rattle.rounding.proofs.Signed.{P, N, Le-refl, Le→le, le→Le, round-Le, Signed, value-finite}
 use Rattle.rounding.proofs.Order.{le-refl, le-trans, between-finite}
 use Rattle.rounding.proofs.Fraction.{add-fraction, mul-is, mul-commutes}
 use Rattle.rounding.proofs.Monotone.{add-mono, mul-mono-plus, mul-anti-minus}
@@ -38,15 +38,26 @@ one+ = fin false 1 (pos 0)
 abbrev pub two+ : Float
 two+ = fin false 1 (pos 1)
 
+-- -1/2 ^ (k + 1)
+abbrev pub part- : ℕ → Float
+part- k = fin true 1 (negsuc k)
+
 -- -1/4
 abbrev pub quarter- : Float
-quarter- = fin true 1 (negsuc 1)
+quarter- = part- 1
 
 -- what has no minus sign is at least zero
 pub zero-le : (x : Float) → Signed false x → T (le zero+ x)
 zero-le nan p = absurd p
 zero-le (inf s) p = rw p (unfold le in tt)
 zero-le (fin s m e) p = rw p (Le→le false 0 (pos 0) false m e (omega arith))
+
+-- 2 ^ -(n + 1) ≤ m * 2 ^ e, in whole numbers
+pub power-below : (n m : ℕ) (e : ℤ) → T (le (fin false 1 (negsuc n)) (fin false m e)) → down e ≤ m * up e * 2 ^ suc n
+power-below n m e h = tidy (2 ^ suc n) (m * up e) (down e) (le→Le false 1 (negsuc n) false m e h)
+  where
+    tidy : (K a D : ℕ) → 1 * D + 0 * K ≤ a * K + 0 * D → D ≤ a * K
+    tidy K a D h = omega arith
 
 -- ---- products
 one-is : (f : Format) (m : ℕ) (e : ℤ) → mul f one+ (fin false m e) ≡ round f false (m * up e) (down e)
@@ -76,30 +87,30 @@ zero-times f n d z =
     (round-at-most f false (0 * (n * up d)) (1 * down d) false 0 (pos 0) z (mul-pos (pow-pos 0) (down-pos d))
     (let p = zero-mul (n * up d) in omega arith))
 
--- v * c lies from -x/4 to 0, for v from 0 to x and c from -1/4 to 0
-pub mul-quarter : (f : Format) (m : ℕ) (e : ℤ) (n : ℕ) (d : ℤ) (c : Float) → T (fits f zero+) → T (finite c)
-    → T (le (fin false n d) (fin false m e)) → T (le quarter- c) → T (le c zero+)
-    → T (le (mul f (fin false m e) quarter-) (mul f (fin false n d) c)) × T (le (mul f (fin false n d) c) zero+)
-mul-quarter f m e n d c z C h lo hi =
+-- v * c lies from x * p to 0, for v from 0 to x and c from p to 0, where p is -1/2 ^ (k + 1)
+pub mul-part : (f : Format) (k m : ℕ) (e : ℤ) (n : ℕ) (d : ℤ) (c : Float) → T (fits f zero+) → T (finite c)
+    → T (le (fin false n d) (fin false m e)) → T (le (part- k) c) → T (le c zero+)
+    → T (le (mul f (fin false m e) (part- k)) (mul f (fin false n d) c)) × T (le (mul f (fin false n d) c) zero+)
+mul-part f k m e n d c z C h lo hi =
     let v = fin false n d in (
-      le-trans (mul f (fin false m e) quarter-) (mul f v quarter-) (mul f v c)
-          (mul-anti-minus f v (fin false m e) 1 (negsuc 1) tt tt h)
-          (rw (mul-commutes f v quarter-, mul-commutes f v c) (mul-mono-plus f quarter- c n d tt C lo)),
+      le-trans (mul f (fin false m e) (part- k)) (mul f v (part- k)) (mul f v c)
+          (mul-anti-minus f v (fin false m e) 1 (negsuc k) tt tt h)
+          (rw (mul-commutes f v (part- k), mul-commutes f v c) (mul-mono-plus f (part- k) c n d tt C lo)),
       rw (mul-commutes f v c) (le-trans (mul f c v) (mul f zero+ v) zero+ (mul-mono-plus f c zero+ n d C tt hi) (zero-times f n d z)),
     )
 
--- ---- x * -(1/4), for an x with two digits to spare
-quarter-is : (f : Format) (m : ℕ) (e : ℤ) → mul f (fin false m e) quarter- ≡ round f true (m * up e) (down e * 2 ^ 2)
-quarter-is f m e = mul-is f false m e true 1 (negsuc 1) ∙ ap (λ (a : ℕ). round f true a (down e * 4)) (mul-one (m * up e))
+-- ---- x * -(1/2 ^ (k + 1)), for an x with k + 1 digits to spare
+part-is : (f : Format) (k m : ℕ) (e : ℤ) → mul f (fin false m e) (part- k) ≡ round f true (m * up e) (down e * 2 ^ suc k)
+part-is f k m e = mul-is f false m e true 1 (negsuc k) ∙ ap (λ (a : ℕ). round f true a (down e * 2 ^ suc k)) (mul-one (m * up e))
 
--- a quarter of an x with two digits to spare is exact
-pub quarter-exact : (f : Format) (m : ℕ) (e : ℤ) (j : ℕ) → OnGrid f m e j → 2 ≤ j
-    → HasValue (mul f (fin false m e) quarter-) true (m * up e) (down e * 2 ^ 2)
-quarter-exact f m e j g J = rw (quarter-is f m e) (shrink-exact f true m e j 2 g J)
+-- it is exact
+pub part-exact : (f : Format) (k m : ℕ) (e : ℤ) (j : ℕ) → OnGrid f m e j → suc k ≤ j
+    → HasValue (mul f (fin false m e) (part- k)) true (m * up e) (down e * 2 ^ suc k)
+part-exact f k m e j g J = rw (part-is f k m e) (shrink-exact f true m e j (suc k) g J)
 
--- a quarter of an x with two digits to spare is finite
-pub quarter-finite : (f : Format) (m : ℕ) (e : ℤ) (j : ℕ) → OnGrid f m e j → 2 ≤ j → T (finite (mul f (fin false m e) quarter-))
-quarter-finite f m e j g J = value-finite (mul f (fin false m e) quarter-) true (m * up e) (down e * 2 ^ 2) (quarter-exact f m e j g J)
+-- so it is finite
+pub part-finite : (f : Format) (k m : ℕ) (e : ℤ) (j : ℕ) → OnGrid f m e j → suc k ≤ j → T (finite (mul f (fin false m e) (part- k)))
+part-finite f k m e j g J = value-finite (mul f (fin false m e) (part- k)) true (m * up e) (down e * 2 ^ suc k) (part-exact f k m e j g J)
 
 -- ---- a sum from half of its first operand to all of it
 
@@ -158,11 +169,11 @@ add-quarter f m e t j F g J X lo hi M =
     let w = mul f x quarter- in
     let k = add f x t in
     let h = round f false (m * up e) (down e * 2 ^ 1) in
-    let W = quarter-exact f m e j g J in
+    let W = part-exact f 1 m e j g J in
     let H : HasValue h false (m * up e) (down e * 2 ^ 1) = shrink-exact f false m e j 1 g (omega arith) in
     let h-fin = value-finite h false (m * up e) (down e * 2) H in
     let h-k : T (le h k) =
-    le-trans h (add f x w) k (fall f m e w W) (add-mono f x x w t tt tt (quarter-finite f m e j g J) X (le-refl x tt) lo) in
+    le-trans h (add f x w) k (fall f m e w W) (add-mono f x x w t tt tt (part-finite f 1 m e j g J) X (le-refl x tt) lo) in
     let k-x = add-le-self f m e t F X hi in (
       le-trans x (mul f h two+) (mul f k two+) (twice f m e h F H)
           (mul-mono-plus f h k 1 (pos 1) h-fin (between-finite h k x h-fin tt h-k k-x) h-k),

@@ -62,14 +62,14 @@ module _ (K A : ℕ) where
       go true e = rw (sub-below A (suc m) (ltb-true _ _ e)) refl
       go false e = rw (sub-above A (suc m) (ltb-false _ _ e)) (le-ltb M (A - suc m) (omega arith))
 
--- the exponent's field of 2 ^ n, for n from 1 - M = -K - 1 to M = K + 2
-pub record Field (K : ℕ) (n : ℤ) : Type 0 where
+-- the exponent's field of 2 ^ n, in a format whose greatest exponent is M
+pub record Field (M : ℕ) (n : ℤ) : Type 0 where
   pub field : ℕ
-  pub is : pos (suc (suc K)) +ℤ n ≡ pos field
-  pub small : field ≤ 2 * suc (suc K)
+  pub is : pos M +ℤ n ≡ pos field
+  pub small : field ≤ 2 * M
 
--- 2 ^ n has a field
-pub field-of : (K : ℕ) (n : ℤ) → ltZ n (negsuc K) ≡ false → ltZ (pos (suc (suc K))) n ≡ false → Field K n
+-- 2 ^ n has a field for n from 1 - M = -K - 1 to M = K + 2
+pub field-of : (K : ℕ) (n : ℤ) → ltZ n (negsuc K) ≡ false → ltZ (pos (suc (suc K))) n ≡ false → Field (suc (suc K)) n
 field-of K (pos m) s t = record { field = suc (suc K) + m; is = refl; small = omega (arith, ltb-false (suc (suc K)) m t) }
 field-of K (negsuc m) s t =
     let h : m ≤ K = ltb-false _ _ s in

@@ -1,4 +1,6 @@
-// scalbn: x times 2^n.
+// scalbn: x times 2^n. In f32: single.
+pub mod single;
+
 ghost use mathlib.Core.Path.{_≡_};
 ghost use mathlib.Core.Bool.{true, false};
 ghost use lib.IntN.{ℤ, pos, negsuc};

@@ -1,15 +1,17 @@
 -- The reduction of sinpi, exactly, over the format. L = 2 ^ low smallest units are 1; x, with no minus sign, is X = m * 2 ^ (j + 1) units. Then x mod 2
--- is X mod 2 L units (`turn-value`, `turn-is`), and x mod 2 less n / 2 is exact too (`fold-down`, `fold-up`).
+-- is X mod 2 L units (`turn-value`, `turn-is`), the whole part of four times that is its quotient (`quarter-value`), and x mod 2 less n / 2 is exact too
+-- (`fold-down`, `fold-up`).
 -- L stays a variable in the arithmetic: its numeral is too long for `omega`. Assumes nothing.
 use mathlib.Core.Path.{_≡_, refl, sym, ap, _∙_, subst}
 use mathlib.Core.Logic.{inl, inr}
 use Prim.Native.Nat.{ℕ, suc, _+_, _-_, _*_, _/_, _%_, _^_, _≤_, _<_}
-use native.Mathlib.Nat.{le-of-lt, lt-of-le-of-lt, add-comm, add-mul, mul-comm, mul-assoc, mul-left-comm, one-mul, mul-sub, mul-le-mul-right, mul-le-mul-left, mul-lt-mul-of-pos-right, div-add-mod', mod-lt, mod-le, mod-eq-of-lt, add-mul-mod-self-right, pow-succ', le-of-mul-le-mul-right, eq-zero-or-pos}
+use native.Mathlib.Nat.{le-of-lt, lt-of-le-of-lt, add-comm, add-mul, mul-comm, mul-assoc, mul-left-comm, one-mul, mul-sub, mul-le-mul-right, mul-le-mul-left, mul-lt-mul-of-pos-right, div-add-mod', mod-lt, mod-le, mod-eq-of-lt, add-mul-mod-self-right, div-lt-iff-lt-mul, pow-succ', le-of-mul-le-mul-right, eq-zero-or-pos}
 use native.Mathlib.Omega.{arith}
 use mathlib.Core.Bool.{true, false}
 use lib.IntN.{pos, negsuc, natAbs}
 use lib.Pow.{pow-pos, pow-add, pow-mono}
-use lib.Ieee.{Float, nan, inf, fin, Format, prec, emax, low, up, down, round, mul, sub}
+use lib.Dec.{lit≤}
+use lib.Ieee.{Float, nan, inf, fin, Format, binary32, binary64, prec, emax, low, up, down, round, mul, sub}
 use lib.Ieee.Fits.{down-pos, round-fits}
 use lib.Ieee.Nearest.{div-same}
 use lib.Ieee.Exact.{HasValue}
@@ -97,6 +99,32 @@ half-value f x m j v small fine =
 abbrev pub restOf : Format → ℕ → ℕ → ℕ
 restOf f m j = m % 2 ^ (low f - j)
 
+four-is : (r j : ℕ) → 4 * (r * 2 ^ suc j) ≡ r * 2 ^ suc (suc (suc j))
+four-is r j =
+    mul-left-comm 4 r (2 ^ suc j)
+    ∙ ap (λ (z : ℕ). r * z) (mul-assoc 2 2 (2 ^ suc j) ∙ ap (λ (z : ℕ). 2 * z) (sym (pow-succ' 2 (suc j))) ∙ sym (pow-succ' 2 (suc (suc j))))
+
+-- four times what is below 2 is far from an overflow
+fourfold : (f : Format) (Y : ℕ) → Y < 2 * 2 ^ low f → 4 * Y < 2 ^ (low f + suc (emax f))
+fourfold f Y h = go Y (2 * 2 ^ low f) (2 ^ (low f + suc (emax f))) h (wide f)
+  where
+    wide : (f : Format) → 4 * (2 * 2 ^ low f) ≤ 2 ^ (low f + suc (emax f))
+    wide binary32 = lit≤ tt
+    wide binary64 = lit≤ tt
+
+    go : (Y A O : ℕ) → Y < A → 4 * A ≤ O → 4 * Y < O
+    go Y A O h k = omega arith
+
+-- and its whole part is below 8
+eighth : (Y L : ℕ) → 0 < L → Y < 2 * L → 4 * Y / L < 2 ^ 31
+eighth Y L l h = far (4 * Y / L) (div-lt-iff-lt-mul l .1 (bound Y L h))
+  where
+    bound : (Y L : ℕ) → Y < 2 * L → 4 * Y < 8 * L
+    bound Y L h = omega arith
+
+    far : (n : ℕ) → n < 8 → n < 2 ^ 31
+    far n h = omega arith
+
 module _ (f : Format) (x : Float) (m j : ℕ) (v : HasValue x false (m * 2 ^ suc j) (2 ^ low f)) (small : m < 2 ^ prec f) (fine : m * 2 ^ suc j < 2 ^ (low f + suc (emax f))) (deep : j ≤ low f) (few : m * 2 ^ j / 2 ^ low f < 2 ^ prec f) where
   -- L is 2 ^ (low - j) * 2 ^ j
   unit-is : 2 ^ low f ≡ 2 ^ (low f - j) * 2 ^ j
@@ -138,6 +166,15 @@ module _ (f : Format) (x : Float) (m j : ℕ) (v : HasValue x false (m * 2 ^ suc
       ap (λ (z : ℕ). m * 2 ^ suc j % z)
       (ap (λ (z : ℕ). 2 * z) unit-is ∙ mul-left-comm 2 (2 ^ (low f - j)) (2 ^ j) ∙ ap (λ (z : ℕ). 2 ^ (low f - j) * z) (sym (pow-succ' 2 j)))
       ∙ mod-scale m (2 ^ (low f - j)) (2 ^ suc j) (pow-pos (low f - j)) (pow-pos (suc j))
+
+  -- the whole part of four times it
+  pub quarter-value : restOf f m j * 2 ^ suc j < 2 * 2 ^ low f
+      → natAbs (wholeS (mul f (fin false 1 (pos 2)) (turnOf f x))) ≡ 4 * (restOf f m j * 2 ^ suc j) / 2 ^ low f
+  quarter-value h =
+      let Y = restOf f m j * 2 ^ suc j in
+      whole-value (mul f (fin false 1 (pos 2)) (turnOf f x)) (4 * Y) (2 ^ low f) (pow-pos (low f))
+      (mul-pow-exact f (turnOf f x) Y 2 (suc (suc (suc j))) turn-value (restOf f m j, four-is (restOf f m j) j, rest-lt, fourfold f Y h))
+      (eighth Y (2 ^ low f) (pow-pos (low f)) h)
 
   -- ---- x mod 2 less n / 2, for a c that is n / 2
   steps : ℕ → ℕ

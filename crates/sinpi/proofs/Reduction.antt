@@ -1,12 +1,16 @@
--- x mod 2, as sinpi takes it, is not below zero, so the whole part of four times it is a natural number. Assumes nothing.
-use mathlib.Core.Path.{_≡_, refl}
+-- x mod 2, as sinpi takes it, is not below zero, so the whole part of four times it is a natural number. Over the format. Assumes nothing.
+use mathlib.Core.Path.{_≡_, refl, sym, subst}
 use Prim.Native.Nat.{ℕ, suc, _+_, _*_, _/_, _%_, _^_, _<_, _≤_}
 use native.Mathlib.Nat.{zero-div, div-add-mod', mod-lt, mul-pos, suc-mul}
 use native.Mathlib.Omega.{arith}
 use mathlib.Core.Bool.{Bool, true, false, not, cond, true≢false}
 use lib.Dec.{T, eqb, ltb}
-use lib.IntN.{ℤ, pos, natAbs}
-use lib.Ieee.{Float, nan, inf, fin, Format, binary64, up, down, round, neg, add, sub, mul, lt, le, fits, ofBits, ofInt}
+use lib.IntN.{ℤ, pos, negsuc, natAbs}
+use lib.Signed.{nonNeg}
+use mir.Syntax.{w32}
+use mir.Val.{SFits, toZ, ofZ}
+use mir.ValLaws.{toZ-ofZ}
+use lib.Ieee.{Float, nan, inf, fin, Format, binary32, binary64, up, down, round, neg, add, sub, mul, lt, le, fits, ofBits, ofInt}
 use lib.Ieee.Fits.{down-pos, mul-fits}
 use borrow.Author.Tests.{ltb-false, le-ltb}
 use Rattle.rounding.proofs.Signed.{P, N, le→Le}
@@ -14,10 +18,11 @@ use Rattle.rounding.proofs.Order.{le-refl}
 use Rattle.rounding.proofs.Fraction.{add-fraction}
 use Rattle.rounding.proofs.Relative.{zero+}
 use Rattle.rounding.proofs.Exact.{round-at-most, round-at-least}
-use Rattle.words.specs.F64.{bits}
 use Rattle.words.specs.Floor.{floorS, below}
 use Rattle.words.specs.Whole.{wholeS}
 use Rattle.sinpi.specs.Sinpi.{turnS}
+use Rattle.sinpi.specs.Sinpif.{turnfS}
+use Rattle.sinpi.proofs.Exactness.{half+, turnOf}
 
 -- x is not below zero: it has no minus sign, or is a zero or a NaN
 abbrev pub NotBelow : Float → Type 0
@@ -87,19 +92,23 @@ mul-not-below f d (fin true m e) h =
     let z : m * up e ≡ 0 = omega (arith, ltb-false 0 (m * up e * 1 + 0 * down e) h) in
     rw z (round-not-below f true (1 * up d * 0) (down d * down e) (mul-pos (down-pos d) (down-pos e)) (omega arith))
 
--- x mod 2
-pub turn-not-below : (x : Float) → NotBelow (turnS x)
-unfolding turnS
-turn-not-below x =
-    let h = mul binary64 x (bits 0x3FE0000000000000) in
-    unfold ofBits in
-    mul-not-below binary64 (pos 1) (sub binary64 h (floorS binary64 h)) (part h (mul-fits binary64 x (bits 0x3FE0000000000000)))
+-- x mod 2, over the format
+turn-of-not-below : (f : Format) (x : Float) → NotBelow (turnOf f x)
+turn-of-not-below f x = mul-not-below f (pos 1) (sub f (mul f x half+) (floorS f (mul f x half+))) (part (mul f x half+) (mul-fits f x half+))
   where
-    part : (h : Float) → T (fits binary64 h) → NotBelow (sub binary64 h (floorS binary64 h))
+    part : (h : Float) → T (fits f h) → NotBelow (sub f h (floorS f h))
     part nan F = unfold sub add lt in refl
     part (inf true) F = unfold sub add neg lt floorS in refl
     part (inf false) F = unfold sub add neg lt floorS in refl
-    part (fin s m e) F = sub-not-below binary64 s m e (floorS binary64 (fin s m e)) (floor-at-most binary64 s m e F)
+    part (fin s m e) F = sub-not-below f s m e (floorS f (fin s m e)) (floor-at-most f s m e F)
+
+pub turn-not-below : (x : Float) → NotBelow (turnS x)
+unfolding turnS ofBits
+turn-not-below x = turn-of-not-below binary64 x
+
+pub turnf-not-below : (x : Float) → NotBelow (turnfS x)
+unfolding turnfS ofBits
+turnf-not-below x = turn-of-not-below binary32 x
 
 -- ---- the whole part of what is not below zero
 whole-natural : (x : Float) → NotBelow x → wholeS x ≡ pos (natAbs (wholeS x))
@@ -116,6 +125,13 @@ whole-natural (fin true m e) h =
     rw (z, zero-div (down e)) refl
 
 -- four times a value that is not below zero has a natural number as its whole part
-pub four-natural : (x : Float) → NotBelow x → wholeS (mul binary64 (bits 0x4010000000000000) x) ≡ pos (natAbs (wholeS (mul binary64 (bits 0x4010000000000000) x)))
-unfolding ofBits
-four-natural x h = whole-natural (mul binary64 (fin false 1 (pos 2)) x) (mul-not-below binary64 (pos 2) x h)
+pub four-natural : (f : Format) (x : Float) → NotBelow x → wholeS (mul f (fin false 1 (pos 2)) x) ≡ pos (natAbs (wholeS (mul f (fin false 1 (pos 2)) x)))
+four-natural f x h = whole-natural (mul f (fin false 1 (pos 2)) x) (mul-not-below f (pos 2) x h)
+
+-- an i32 that is a natural number has room for one more in a u32
+pub room : (z w : ℤ) → SFits w32 z → z ≡ w → w ≡ pos (natAbs w) → T (nonNeg (toZ w32 (ofZ w32 z))) × (natAbs (toZ w32 (ofZ w32 z)) + 1 < 2 ^ 32)
+room z w f e n = rw (toZ-ofZ w32 z f) (go z f (subst (λ (v : ℤ). v ≡ pos (natAbs v)) (sym e) n))
+  where
+    go : (z : ℤ) → SFits w32 z → z ≡ pos (natAbs z) → T (nonNeg z) × (natAbs z + 1 < 2 ^ 32)
+    go (pos n) f e = (tt, omega (arith, f .sfits))
+    go (negsuc n) f e = absurd (subst (λ (z : ℤ). T (nonNeg z)) (sym e) tt)

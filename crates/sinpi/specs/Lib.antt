@@ -1,1 +1,2 @@
 pub mod Sinpi
+pub mod Sinpif

@@ -1,4 +1,6 @@
-// sin(pi x), the Rust's sinpi in tgamma.rs and sin_pi in lgamma_r.rs.
+// sin(pi x), the Rust's sinpi in tgamma.rs and sin_pi in lgamma_r.rs. Module `single` is for f32.
+pub mod single;
+
 ghost use mathlib.Core.Path.{_≡_};
 ghost use mathlib.Core.Bool.{false};
 ghost use lib.Ieee.{binary64, ofBits, lt};

@@ -1,13 +1,12 @@
 -- k_cos of an x of a size up to the f64 nearest pi/4, with no tail, lies from 1/2 to 2: `cos-range`. By intervals. Assumes nothing.
 use mathlib.Core.Path.{_≡_, refl, subst}
 use mathlib.Core.Logic.{inl, inr}
-use mathlib.Core.List.{[], _∷_}
+use mathlib.Core.List.{List, [], _∷_}
 use lib.Dec.{T}
 use lib.Ieee.{Float, binary64, add, sub, mul, neg, le, ofBits}
-use lib.Ieee.Scale.{finite}
 use Rattle.rounding.proofs.Order.{between-finite}
-use Rattle.rounding.proofs.Interval.{some}
-use Rattle.rounding.proofs.Range.{Expr, var, con, plus, minus, times, share, eval, ieval, In, halvedTest, halved, in-split}
+use Rattle.rounding.proofs.Interval.{Interval, some}
+use Rattle.rounding.proofs.Range.{Expr, var, con, plus, minus, times, share, eval, ieval, Env, In, halvedTest, halved, in-split}
 use Rattle.words.specs.F64.{bits}
 use Rattle.trig.specs.KCos.{C1, C2, C3, C4, C5, C6, kCosS}
 
@@ -47,20 +46,21 @@ minus-test : T (halvedTest 4 binary64 half two cosE (some (bits 0) (bits 0) ∷ 
 unfolding halvedTest ieval add sub mul le neg ofBits
 minus-test = tt
 
--- what the test proves, for the tail 0
-from-test :
-    (a b x : Float) → T (finite x) → T (halvedTest 4 binary64 half two cosE (some (bits 0) (bits 0) ∷ []) a b) → In a b x
-    → In half two (kCosS x (bits 0))
-unfolding ofBits le
-from-test a b x X t i =
-    subst (In half two) (cos-is x (bits 0))
-    (halved 4 binary64 half two cosE (some (bits 0) (bits 0) ∷ []) (bits 0 ∷ []) a b x X t ((tt, tt, tt, tt), tt) i)
-
-pub cos-range : (x : Float) → In (neg pio4) pio4 x → In half two (kCosS x (bits 0))
+-- an expression in x that a test on each side of zero bounds
+pub both-sides : (e : Expr) (σ : List Interval) (ρ : List Float) → Env σ ρ
+    → T (halvedTest 4 binary64 half two e σ (neg pio4) (bits 0)) → T (halvedTest 4 binary64 half two e σ (bits 0) pio4)
+    → (x : Float) → In (neg pio4) pio4 x → In half two (eval binary64 (x ∷ ρ) e)
 unfolding ofBits neg
-cos-range x i =
+both-sides e σ ρ s t u x i =
     let X = between-finite (neg pio4) x pio4 tt tt (i .0) (i .1) in
     elim (in-split (neg pio4) x pio4 (bits 0) X tt i) [
-      | inl j ↦ from-test (neg pio4) (bits 0) x X minus-test j
-      | inr j ↦ from-test (bits 0) pio4 x X plus-test j
+      | inl j ↦ halved 4 binary64 half two e σ ρ (neg pio4) (bits 0) x X t s j
+      | inr j ↦ halved 4 binary64 half two e σ ρ (bits 0) pio4 x X u s j
     ]
+
+-- for the tail 0
+pub cos-range : (x : Float) → In (neg pio4) pio4 x → In half two (kCosS x (bits 0))
+unfolding ofBits le
+cos-range x i =
+    subst (In half two) (cos-is x (bits 0))
+    (both-sides cosE (some (bits 0) (bits 0) ∷ []) (bits 0 ∷ []) ((tt, tt, tt, tt), tt) minus-test plus-test x i)

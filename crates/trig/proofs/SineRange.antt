@@ -4,19 +4,20 @@
 -- it is a zero. Assumes nothing.
 use mathlib.Core.Path.{_≡_, refl, sym, ap, _∙_, subst}
 use mathlib.Core.List.{[], _∷_}
-use Prim.Native.Nat.{ℕ, _+_, _*_, _^_, _≤_, _<_}
+use Prim.Native.Nat.{ℕ, _+_, _≤_, _<_}
 use native.Mathlib.Omega.{arith}
 use mathlib.Core.Bool.{Bool, true, false, not}
 use lib.IntN.{ℤ, pos, negsuc}
 use lib.Dec.{T, ltb→lt}
-use lib.Ieee.{Float, nan, inf, fin, binary64, add, mul, neg, le, fits, up, down, ofBits}
-use lib.Ieee.Fits.{neg-fits}
+use lib.Ieee.{Float, nan, inf, fin, binary64, add, mul, neg, le, fits, ofBits}
+use lib.Ieee.Fits.{neg-fits, mul-fits}
 use lib.Ieee.Positive.{positive}
-use Rattle.rounding.proofs.Signed.{Signed, finite-shape, round-signed, le→Le, le-neg}
-use Rattle.rounding.proofs.Order.{le-total, between-finite}
+use Rattle.rounding.proofs.Signed.{Signed, finite-shape, round-signed, le-neg}
+use Rattle.rounding.proofs.Order.{le-refl, le-trans, le-total, between-finite}
 use Rattle.rounding.proofs.Fraction.{mul-is}
 use Rattle.rounding.proofs.Grid.{on-grid, spare}
-use Rattle.rounding.proofs.Relative.{zero+, one+, quarter-, zero-le, mul-le-self, mul-quarter, quarter-finite, FromHalf, add-quarter, add-nothing}
+use Rattle.rounding.proofs.Relative.{zero+, one+, part-, quarter-, zero-le, power-below, mul-le-self, mul-part, part-finite}
+use Rattle.rounding.proofs.Relative.{FromHalf, add-quarter, add-nothing}
 use Rattle.rounding.proofs.Odd.{neg-neg, mul-neg, mul-neg-right, mul-neg-both, add-odd}
 use Rattle.rounding.proofs.Range.{Expr, var, con, plus, times, share, eval, ieval, In, rangeTest, range}
 use Rattle.words.specs.F64.{_⊕_, _⊗_, bits}
@@ -69,47 +70,61 @@ rest-is x = refl
 zero-under : (m : ℕ) (e : ℤ) → T (le zero+ (fin false m e))
 zero-under m e = zero-le (fin false m e) refl
 
-mul-plus : (m : ℕ) (e : ℤ) (n : ℕ) (d : ℤ) → Signed false (fin false m e ⊗ fin false n d)
+pub mul-plus : (m : ℕ) (e : ℤ) (n : ℕ) (d : ℤ) → Signed false (fin false m e ⊗ fin false n d)
 mul-plus m e n d = subst (Signed false) (sym (mul-is binary64 false m e false n d)) (round-signed binary64 false _ _)
-
-big-enough : (m : ℕ) (e : ℤ) → T (le tiny (fin false m e)) → down e ≤ m * up e * 2 ^ 500
-big-enough m e h = tidy (2 ^ 500) (m * up e) (down e) (le→Le false 1 (negsuc 499) false m e h)
-  where
-    tidy : (K a D : ℕ) → 1 * D + 0 * K ≤ a * K + 0 * D → D ≤ a * K
-    tidy K a D h = omega arith
 
 plenty : (j : ℕ) → 1074 < 53 + j + 500 → 2 ≤ j
 plenty j h = omega arith
 
--- v * c lies from -x/4 to 0, for z up to 1 and c from -1/4 to 0
-product-range : (m : ℕ) (e : ℤ) (z c : Float) → T (fits binary64 (fin false m e)) → Signed false z → In zero+ one+ z → In quarter- zero+ c
-    → In (fin false m e ⊗ quarter-) zero+ (z ⊗ fin false m e ⊗ c)
-product-range m e z c F p zi ci =
-    let x = fin false m e in
-    let v = z ⊗ x in
-    let Z = between-finite zero+ z one+ tt tt (zi .0) (zi .1) in
-    let C = between-finite quarter- c zero+ tt tt (ci .0) (ci .1) in
-    let v-x : T (le v x) = mul-le-self binary64 z m e F Z (zi .1) in
-    let zs = finite-shape false z p Z in
-    let v-plus : Signed false v = subst (λ (u : Float). Signed false (u ⊗ x)) (sym (zs .2)) (mul-plus (zs .0) (zs .1) m e) in
-    let vs = finite-shape false v v-plus (between-finite zero+ v x tt tt (zero-le v v-plus) v-x) in
-    rw (vs .2) (mul-quarter binary64 m e (vs .0) (vs .1) c (unfold fits in tt) C (subst (λ (u : Float). T (le u x)) (vs .2) v-x) (ci .0) (ci .1))
+-- ---- the pieces, for an x that is fin false m e
 
+-- x * x is at most 1
+pub square-range : (m : ℕ) (e : ℤ) → T (le (fin false m e) pio4) → In zero+ one+ (fin false m e ⊗ fin false m e)
+square-range m e hi = unfold eval in (range binary64 zero+ one+ (times (var 0) (var 0)) [] [] zero+ pio4 (fin false m e) square-test tt (zero-under m e, hi))
+
+-- v has no minus sign and is at most x
+abbrev pub Under : Float → Float → Type 0
+Under x v = T (fits binary64 v) × Signed false v × T (le v x)
+
+under-shape : (m : ℕ) (e : ℤ) (v : Float) → Under (fin false m e) v → (n : ℕ) × (d : ℤ) × (v ≡ fin false n d)
+under-shape m e v u = finite-shape false v (u .1) (between-finite zero+ v (fin false m e) tt tt (zero-le v (u .1)) (u .2))
+
+-- so is z * v, for a z from 0 to 1
+pub times-under : (m : ℕ) (e : ℤ) (z v : Float) → Signed false z → In zero+ one+ z → Under (fin false m e) v → Under (fin false m e) (z ⊗ v)
+times-under m e z v p i u =
+    let Z = between-finite zero+ z one+ tt tt (i .0) (i .1) in
+    let zs = finite-shape false z p Z in
+    let vs = under-shape m e v u in (
+      mul-fits binary64 z v,
+      rw (zs .2, vs .2) (mul-plus (zs .0) (zs .1) (vs .0) (vs .1)),
+      le-trans (z ⊗ v) v (fin false m e)
+          (rw (vs .2) (mul-le-self binary64 z (vs .0) (vs .1) (subst (λ (y : Float). T (fits binary64 y)) (vs .2) (u .0)) Z (i .1))) (u .2),
+    )
+
+-- v * c lies from -x/2 ^ (k + 1) to 0, for c from -1/2 ^ (k + 1) to 0
+pub product-range : (k m : ℕ) (e : ℤ) (v c : Float) → Under (fin false m e) v → In (part- k) zero+ c → In (fin false m e ⊗ part- k) zero+ (v ⊗ c)
+product-range k m e v c u i =
+    let vs = under-shape m e v u in
+    rw (vs .2)
+    (mul-part binary64 k m e (vs .0) (vs .1) c (unfold fits in tt) (between-finite (part- k) c zero+ tt tt (i .0) (i .1))
+    (subst (λ (y : Float). T (le y (fin false m e))) (vs .2) (u .2)) (i .0) (i .1))
+
+-- ---- from half of x to x
 sin-big : (m : ℕ) (e : ℤ) → T (fits binary64 (fin false m e)) → 0 < m → T (le tiny (fin false m e)) → T (le (fin false m e) pio4)
     → FromHalf binary64 (fin false m e) (sin (fin false m e))
 sin-big m e F M lo hi =
     let x = fin false m e in
     let z = x ⊗ x in
     let t = z ⊗ x ⊗ fac z in
-    let zi : In zero+ one+ z =
-    unfold eval in (range binary64 zero+ one+ (times (var 0) (var 0)) [] [] zero+ pio4 x square-test tt (zero-under m e, hi)) in
+    let zi = square-range m e hi in
     let ci : In quarter- zero+ (fac z) = range binary64 quarter- zero+ facE [] [] zero+ one+ z fac-test tt zi in
-    let ti : In (x ⊗ quarter-) zero+ t = product-range m e z (fac z) F (mul-plus m e m e) zi ci in
+    let ti : In (x ⊗ quarter-) zero+ t =
+    product-range 1 m e (z ⊗ x) (fac z) (times-under m e z x (mul-plus m e m e) zi (F, refl, le-refl x tt)) ci in
     let g = on-grid binary64 false m e F in
-    let J = plenty (g .0) (spare binary64 m e (g .0) 500 (g .1) (big-enough m e lo)) in
+    let J = plenty (g .0) (spare binary64 m e (g .0) 500 (g .1) (power-below 499 m e lo)) in
     subst (FromHalf binary64 x) (sym (sin-is x))
     (add-quarter binary64 m e t (g .0) F (g .1) J
-    (between-finite (x ⊗ quarter-) t zero+ (quarter-finite binary64 m e (g .0) (g .1) J) tt (ti .0) (ti .1)) (ti .0) (ti .1) M)
+    (between-finite (x ⊗ quarter-) t zero+ (part-finite binary64 1 m e (g .0) (g .1) J) tt (ti .0) (ti .1)) (ti .0) (ti .1) M)
 
 sin-small : (m : ℕ) (e : ℤ) → T (fits binary64 (fin false m e)) → 0 < m → T (le (fin false m e) tiny)
     → FromHalf binary64 (fin false m e) (sin (fin false m e))
@@ -153,14 +168,22 @@ pub sin-odd : (x : Float) → T (fits binary64 x) → T (positive x) → T (le x
     → kSinS (neg x) (bits 0) (pos 0) ≡ neg (kSinS x (bits 0) (pos 0))
 sin-odd x F p hi = odd-where x (sin-range x F p hi .2)
 
+-- what an odd function has at -x it has at x, turned
+pub turned : (D : Float → Type 0) (R : Float → Float → Type 0) (k : Float → Float) → ((y : Float) → D y → R y (k y))
+    → ((y : Float) → D y → k (neg y) ≡ neg (k y)) → (x : Float) → D (neg x) → R (neg x) (neg (k x))
+turned D R k holds odd x d =
+    let e : k x ≡ neg (k (neg x)) = ap k (sym (neg-neg x)) ∙ odd (neg x) d in
+    subst (R (neg x)) (sym (ap neg e ∙ neg-neg (k (neg x)))) (holds (neg x) d)
+
+pub under-pio4 : (x : Float) → T (le (neg pio4) x) → T (le (neg x) pio4)
+under-pio4 x lo = subst (λ (u : Float). T (le (neg x) u)) (neg-neg pio4) (le-neg (neg pio4) x lo)
+
 -- for an x below zero its negative lies from half of -x to -x
 pub sin-range-minus : (x : Float) → T (fits binary64 x) → T (positive (neg x)) → T (le (neg pio4) x)
     → FromHalf binary64 (neg x) (neg (kSinS x (bits 0) (pos 0)))
 sin-range-minus x F p lo =
-    let F' = neg-fits binary64 x F in
-    let hi : T (le (neg x) pio4) = subst (λ (u : Float). T (le (neg x) u)) (neg-neg pio4) (le-neg (neg pio4) x lo) in
-    let e : sin x ≡ neg (sin (neg x)) = ap sin (sym (neg-neg x)) ∙ sin-odd (neg x) F' p hi in
-    subst (FromHalf binary64 (neg x)) (sym (ap neg e ∙ neg-neg (sin (neg x)))) (sin-range (neg x) F' p hi)
+    turned (λ (y : Float). T (fits binary64 y) × T (positive y) × T (le y pio4)) (FromHalf binary64) sin
+    (λ y d. sin-range y (d .0) (d .1) (d .2)) (λ y d. sin-odd y (d .0) (d .1) (d .2)) x (neg-fits binary64 x F, p, under-pio4 x lo)
 
 -- of either zero it is +0
 pub sin-zero : (s : Bool) → kSinS (fin s 0 (pos 0)) (bits 0) (pos 0) ≡ bits 0

@@ -1,2 +1,4 @@
 pub mod KSin
 pub mod KCos
+pub mod KSinf
+pub mod KCosf

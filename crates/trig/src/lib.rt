@@ -1,4 +1,6 @@
-// The kernels of the sine and of the cosine in f64, as the Rust's k_sin.rs and k_cos.rs have them.
+// The kernels of the sine and of the cosine in f64, as the Rust's k_sin.rs and k_cos.rs have them. Module `single` is for f32.
+pub mod single;
+
 ghost use mathlib.Core.Path.{_≡_};
 ghost use Rattle.trig.specs.KSin.{kSinS};
 ghost use Rattle.trig.specs.KCos.{kCosS};

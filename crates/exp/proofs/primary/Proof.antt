@@ -1,11 +1,8 @@
 -- `exp::primary` meets its contract. Assumes nothing.
-use mir.Syntax.{w32}
-use mir.ValLaws.{toZ-ofZ}
-use borrow.Author.Tests.{eq-eqb, ne-eqb}
-use lib.IntN.{natAbs}
-use Rattle.exp.specs.Exp.{primaryS}
-use Rattle.exp.proofs.Zero.{zero-of-bits, nonzero-of-bits}
+use mathlib.Core.Path.{_∙_}
 use borrow.Author.Needs.{needs}
+use Rattle.exp.specs.Exp.{exp64}
+use Rattle.exp.proofs.ExpCode as code
 use Rattle.exp.proofs.primary.Statement.{statement}
 use Rattle.exp.proofs.primary.Tie as tie
 
@@ -19,16 +16,15 @@ scalbn-requires : tie.Need-scalbn-requires
 scalbn-requires c κs = search needs
 
 returns : tie.Need-returns
-unfolding primaryS
 returns c =
     let s = c .before .before .before in
-    simp (eq-eqb (natAbs (s .args .k)) 0 (zero-of-bits (s .args .k) (s .fits .k) (c .if1 .taken))) (cc)
+    code.not-scaled exp64 _ (s .args .x) (s .args .hi) (s .args .lo) (s .args .k) (s .fits .k) (c .before .horner .ensures) (c .if1 .taken)
 
 returns-2 : tie.Need-returns-2
-unfolding primaryS
 returns-2 c =
     let s = c .before .before .before .before in
-    simp (ne-eqb (natAbs (s .args .k)) 0 (nonzero-of-bits (s .args .k) (c .before .if1 .left))) (cc (toZ-ofZ w32 (s .args .k) (s .fits .k)))
+    c .scalbn .ensures
+    ∙ code.scaled exp64 _ (s .args .x) (s .args .hi) (s .args .lo) (s .args .k) (s .fits .k) (c .before .before .horner .ensures) (c .before .if1 .left)
 
 pub primary-spec : {M : Type 1} → statement M
 primary-spec =

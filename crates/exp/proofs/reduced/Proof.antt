@@ -1,8 +1,7 @@
 -- `exp::reduced` meets its contract. Assumes nothing.
-use mir.Syntax.{w32}
-use mir.ValLaws.{toZ-ofZ}
-use Rattle.exp.specs.Exp.{reducedS}
 use borrow.Author.Needs.{needs}
+use Rattle.exp.specs.Exp.{exp64}
+use Rattle.exp.proofs.ExpCode as code
 use Rattle.exp.proofs.reduced.Statement.{statement}
 use Rattle.exp.proofs.reduced.Tie as tie
 
@@ -16,10 +15,9 @@ primary-requires : tie.Need-primary-requires
 primary-requires c κs = search needs
 
 returns : tie.Need-returns
-unfolding reducedS
 returns c =
     let s = c .before .before .before in
-    rw (toZ-ofZ w32 (s .args .k) (s .fits .k)) at (c .primary .ensures)
+    cc (code.reduced-by exp64 (s .args .x) (s .args .k) (s .fits .k))
 
 pub reduced-spec : {M : Type 1} → statement M
 reduced-spec = tie.close (tie.spec int-to-float-hi int-to-float-lo primary-requires returns)

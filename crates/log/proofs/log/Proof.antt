@@ -4,6 +4,8 @@ use mathlib.Core.Logic.{⊎-elim}
 use native.Mathlib.Omega.{arith}
 use borrow.Author.Tests.{leb-true, leb-false, eqb-true, eq-eqb, ne-eqb}
 use borrow.Author.Needs.{needs}
+use Rattle.log.specs.Log.{log64}
+use Rattle.log.proofs.Regions.{pattern64}
 use Rattle.log.proofs.Regions as regions
 use Rattle.log.proofs.log.Statement.{statement}
 use Rattle.log.proofs.log.Tie as tie
@@ -12,12 +14,15 @@ bits-of-requires : tie.Need-bits-of-requires
 bits-of-requires c κs = search needs
 
 returns : tie.Need-returns
-returns c = let s = c .before .before in regions.at-zero (s .before .args .x) _ (s .bits-of .ensures) (c .if3 .taken)
+returns c =
+    let s = c .before .before in
+    let z = c .if3 .taken in
+    regions.at-zero log64 _ _ _ _ (pattern64 _ _ (s .bits-of .ensures)) (λ h. omega (arith, h, z)) z
 
 returns-2 : tie.Need-returns-2
 returns-2 c =
     let s = c .before .before .before in
-    regions.negative (s .before .args .x) _ (s .bits-of .ensures) (c .before .if3 .left) (c .if4 .taken)
+    regions.negative log64 _ _ _ _ (pattern64 _ _ (s .bits-of .ensures)) (c .before .if3 .left) (c .if4 .taken)
 
 bits-of-requires-2 : tie.Need-bits-of-requires-2
 bits-of-requires-2 c κs = search needs
@@ -30,29 +35,37 @@ returns-3 c =
     let n = c .before .before in
     let s = n .before .before .before in
     let ui = s .bits-of .result in
-    regions.subnormal
-    (s .before .args .x)
-    ui
+    regions.subnormal log64 _ _ _ _ (pattern64 _ _ (s .bits-of .ensures))
     (c .before .bits-of2 .result)
     _
-    (s .bits-of .ensures)
     (n .before .if3 .left)
     (⊎-elim
     (λ w. w .taken)
     (λ w. absurd (omega (arith, leb-true (2 ^ 31) (ui / 2 ^ 32) (w .1 .taken), n .if4 .left)))
     (n .before .before .if1 .came))
+    (n .if4 .left)
     (c .before .bits-of2 .ensures)
     (c .reduced .ensures)
 
 returns-4 : tie.Need-returns-4
 returns-4 c =
-    let s = c .before .before .before in
-    regions.not-finite (s .before .args .x) _ (s .bits-of .ensures) (c .if5 .taken) (leb-false _ _ (c .before .if2 .left))
+    let b = c .before in
+    let s = b .before .before in
+    regions.not-finite log64 _ _ _ _ (pattern64 _ _ (s .bits-of .ensures))
+    (b .before .if1 .left)
+    (leb-false _ _ (b .if2 .left))
+    (c .if5 .taken)
 
 returns-5 : tie.Need-returns-5
 returns-5 c =
-    let s = c .before .before .before .before .before in
-    regions.at-one (s .before .args .x) _ (s .bits-of .ensures) (c .before .if6 .taken) (eqb-true _ _ (c .if7 .taken))
+    let b = c .before .before .before in
+    let s = b .before .before in
+    regions.at-one log64 _ _ _ _ (pattern64 _ _ (s .bits-of .ensures))
+    (b .before .if1 .left)
+    (leb-false _ _ (b .if2 .left))
+    (c .before .before .if5 .left)
+    (c .before .if6 .taken)
+    (eqb-true _ _ (c .if7 .taken))
 
 reduced-requires-2 : tie.Need-reduced-requires-2
 reduced-requires-2 c κs = search needs
@@ -60,14 +73,12 @@ reduced-requires-2 c κs = search needs
 returns-6 : tie.Need-returns-6
 returns-6 c =
     let n = c .before .before in
-    let s = n .before .before .before in
-    let ui = s .bits-of .result in
-    regions.normal
-    (s .before .args .x)
-    ui
+    let b = n .before in
+    let s = b .before .before in
+    regions.normal log64 _ _ _ _ (pattern64 _ _ (s .bits-of .ensures))
+    (b .before .if1 .left)
+    (leb-false _ _ (b .if2 .left))
     _
-    (s .bits-of .ensures)
-    (n .before .before .if1 .left)
     (n .if5 .left)
     (⊎-elim (λ w. simp (eq-eqb _ _ (w .0 .taken), w .1 .left)) (λ w. simp (ne-eqb _ _ (w .left))) (c .before .if6 .came))
     (c .reduced2 .ensures)

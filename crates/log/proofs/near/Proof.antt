@@ -1,7 +1,7 @@
 -- `log::near` meets its contract. Assumes nothing.
 use mir.Syntax.{w32}
 use mir.ValLaws.{toZ-ofZ}
-use Rattle.log.specs.Log.{nearS}
+use Rattle.log.specs.Plan.{nearS}
 use borrow.Author.Needs.{needs}
 use Rattle.log.proofs.near.Statement.{statement}
 use Rattle.log.proofs.near.Tie as tie

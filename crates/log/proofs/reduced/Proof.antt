@@ -1,5 +1,7 @@
 -- `log::reduced` meets its contract. Assumes nothing.
+use mathlib.Core.Path.{refl}
 use borrow.Author.Needs.{needs, sfits-of}
+use Rattle.log.specs.Log.{log64}
 use Rattle.log.proofs.Reduction.{reduced-of}
 use Rattle.log.proofs.reduced.Statement.{statement}
 use Rattle.log.proofs.reduced.Tie as tie
@@ -32,16 +34,21 @@ returns : tie.Need-returns
 returns c =
     let s = c .before .before in
     reduced-of
+    log64
     (s .before .args .ui)
+    _
+    _
     (s .before .args .k)
     (s .exponent .result)
     (c .before .of-bits .result)
     _
     (s .before .fits .k)
     (sfits-of (s .exponent .ok))
-    (s .exponent .ensures)
+    (s .exponent .ensures .0)
     (c .before .of-bits .ensures)
     (c .near .ensures)
+    refl
+    refl
 
 pub reduced-spec : {M : Type 1} → statement M
 reduced-spec =

@@ -1,0 +1,44 @@
+-- `exp::single::multiple` meets its contract. Assumes nothing.
+use mathlib.Core.Path.{_∙_}
+use native.Mathlib.Omega.{arith}
+use mir.Syntax.{w32}
+use mir.ValLaws.{toZ-ofZ}
+use borrow.Author.Needs.{needs, sfits-of}
+use Rattle.exp.specs.Expf.{exp32}
+use Rattle.exp.proofs.ExpCode as code
+use Rattle.exp.proofs.single.multiple.Statement.{statement}
+use Rattle.exp.proofs.single.multiple.Tie as tie
+
+wholef-requires : tie.Need-wholef-requires
+wholef-requires c κs = search needs
+
+returns : tie.Need-returns
+returns c =
+    let a = c .before .before .before .args in
+    toZ-ofZ w32 (c .wholef .result) (sfits-of (c .wholef .ok))
+    ∙ c .wholef .ensures
+    ∙ code.nearest-plus exp32 (a .x) (a .hx) (a .sign) (omega (arith, c .before .before .if1 .taken)) (c .before .if2 .taken)
+
+wholef-requires-2 : tie.Need-wholef-requires-2
+wholef-requires-2 c κs = search needs
+
+returns-2 : tie.Need-returns-2
+returns-2 c =
+    let a = c .before .before .before .args in
+    toZ-ofZ w32 (c .wholef2 .result) (sfits-of (c .wholef2 .ok))
+    ∙ c .wholef2 .ensures
+    ∙ code.nearest-minus exp32 (a .x) (a .hx) (a .sign) (omega (arith, c .before .before .if1 .taken)) (c .before .if2 .left)
+
+returns-3 : tie.Need-returns-3
+returns-3 c =
+    let a = c .before .before .args in
+    code.once-plus exp32 (a .x) (a .hx) (a .sign) (omega (arith, c .before .if1 .left)) (c .if3 .taken)
+
+returns-4 : tie.Need-returns-4
+returns-4 c =
+    let a = c .before .before .args in
+    code.once-minus exp32 (a .x) (a .hx) (a .sign) (omega (arith, c .before .if1 .left)) (c .if3 .left)
+
+pub multiple-spec : {M : Type 1} → statement M
+multiple-spec =
+    tie.close (tie.spec wholef-requires returns wholef-requires-2 returns-2 returns-3 returns-4)
