@@ -5,12 +5,12 @@
 -- its terms: below 2 ^ -28 these have the sign of x, and from there on the sum is above zero with x, so that they never cancel.
 -- Assumes nothing.
 use mathlib.Core.Path.{_≡_, refl, sym, ap, _∙_}
-use Prim.Native.Nat.{ℕ, _+_, _*_, _≤_, _<_}
+use Prim.Native.Nat.{ℕ, _+_, _*_, _≤_}
 use mathlib.Core.Bool.{Bool, true, false, not, true≢false}
 use lib.IntN.{ℤ}
 use lib.Dec.{T, ltb, ltb→lt, nltb→le}
-use lib.Ieee.{Float, nan, inf, fin, Format, up, down, add, sub, mul, div, neg, sum, fits}
-use lib.Ieee.Positive.{positive}
+use lib.Ieee.{Float, nan, inf, fin, Format, up, down, add, sub, mul, div, neg, sum, le, fits}
+use lib.Ieee.Positive.{positive, above, above-of-le}
 use borrow.Author.Tests.{lt-leb, le-ltb}
 use Rattle.rounding.proofs.Signed.{Signed, round-neg, round-signed}
 use Rattle.rounding.proofs.Odd.{neg-neg, mul-neg, mul-neg-right, mul-neg-both, add-odd}
@@ -22,25 +22,7 @@ use Rattle.poly.specs.Horner.{hornerS}
 use Rattle.erf.specs.Plan.{Plan}
 use Rattle.erf.specs.Plan as Plan
 use Rattle.erf.proofs.SignBit.{fabs-neg}
-
--- ---- what the laws ask of a plan
-pub record Regular (p : Plan) : Type 0 where
-  -- ix does not see the sign, and tells the finite values
-  pub ix-neg : (x : Float) → p .ix (neg x) ≡ p .ix x
-  pub ix-finite : (m : ℕ) (e : ℤ) → T (fits (p .format) (fin false m e)) → p .ix (fin false m e) < p .notFinite
-  -- two constants
-  pub eight-plus : T (positive (p .eight))
-  pub EFX8-plus : T (positive (p .EFX8))
-  -- from 2 ^ -28 to 0.84375 erf is above zero
-  pub small-plus : (m : ℕ) (e : ℤ) → T (fits (p .format) (fin false m e))
-      → p .at2^-28 ≤ p .ix (fin false m e) → p .ix (fin false m e) < p .at0·84375
-      → T (positive (add (p .format) (fin false m e) (mul (p .format) (fin false m e) (Plan.smallS p (fin false m e)))))
-  -- what is not finite
-  pub erf-nan : Plan.erfS p nan ≡ nan
-  pub erf-inf : Plan.erfS p (inf true) ≡ neg (Plan.erfS p (inf false))
-  pub erfc-inf : Plan.erfcS p (inf true) ≡ sub (p .format) (p .two) (Plan.erfcS p (inf false))
-  -- from 28 on
-  pub far : sub (p .format) (p .two) (p .tiny) ≡ sub (p .format) (p .two) (mul (p .format) (p .tiny) (p .tiny))
+use Rattle.erf.proofs.Regular.{Regular, valueAt, ix-neg, ix-finite, from-cut, small-plus}
 
 -- ---- a sum of two values with no minus sign turns with both
 add-odd-plus : (f : Format) (x y : Float) → Signed false x → Signed false y → add f (neg x) (neg y) ≡ neg (add f x y)
@@ -120,12 +102,12 @@ module _ (p : Plan) where
   plus-odd r m e F =
       let x = fin false m e in
       let w = p .ix x in
-      rw (r .ix-neg x, sign-of f false m e F, minus m e F, lt-leb (p .notFinite) w (r .ix-finite m e F))
+      rw (ix-neg p r x, sign-of f false m e F, minus m e F, lt-leb (p .notFinite) w (ix-finite p r m e F))
       (pick-through neg (ltb w (p .at0·84375)) _ _ _ _
       (λ (h : T (ltb w (p .at0·84375))).
       pick-through neg (ltb w (p .at2^-28)) _ _ _ _
       (λ (k : T (ltb w (p .at2^-28))). tiny-odd r m e)
-      (λ (k : T (not (ltb w (p .at2^-28)))). sum-odd x (r .small-plus m e F (nltb→le w (p .at2^-28) k) (ltb→lt w (p .at0·84375) h))))
+      (λ (k : T (not (ltb w (p .at2^-28)))). sum-odd x (small-plus p r m e F (nltb→le w (p .at2^-28) k) (ltb→lt w (p .at0·84375) h))))
       (λ (h : T (not (ltb w (p .at0·84375)))). rw (erfc2-even w x) refl))
 
   -- where x is -y, y is -x
@@ -149,17 +131,21 @@ module _ (p : Plan) where
   plus-mirror r m e F h =
       let x = fin false m e in
       let w = p .ix x in
-      rw (r .ix-neg x, sign-of f false m e F, minus m e F, lt-leb (p .notFinite) w (r .ix-finite m e F), le-ltb w (p .at0·84375) h)
+      rw (ix-neg p r x, sign-of f false m e F, minus m e F, lt-leb (p .notFinite) w (ix-finite p r m e F), le-ltb w (p .at0·84375) h)
       (pick-through (sub f (p .two)) (ltb w (p .at28)) _ _ _ _
       (λ (k : T (ltb w (p .at28))). rw (erfc2-even w x) refl)
       (λ (k : T (not (ltb w (p .at28)))). r .far))
 
   -- erfc(-x) is 2 - erfc(x), for an x from 0.84375 on
-  pub erfc-mirror : Regular p → (x : Float) → T (fits f x) → Signed false x → p .at0·84375 ≤ p .ix x
+  pub erfc-mirror : (r : Regular p) (x : Float) → T (fits f x) → T (le (valueAt p (r .without) (p .at0·84375)) x)
       → Plan.erfcS p (neg x) ≡ sub f (p .two) (Plan.erfcS p x)
   unfolding neg
-  erfc-mirror r nan F s h = absurd s
-  erfc-mirror r (inf true) F s h = absurd (true≢false s)
-  erfc-mirror r (inf false) F s h = r .erfc-inf
-  erfc-mirror r (fin true m e) F s h = absurd (true≢false s)
-  erfc-mirror r (fin false m e) F s h = plus-mirror r m e F h
+  erfc-mirror r x F h = go x F h (above-of-le (valueAt p (r .without) (p .at0·84375)) x (r .cut-plus) h)
+    where
+      go : (x : Float) → T (fits f x) → T (le (valueAt p (r .without) (p .at0·84375)) x) → T (above x)
+          → Plan.erfcS p (neg x) ≡ sub f (p .two) (Plan.erfcS p x)
+      go nan F h a = absurd a
+      go (inf true) F h a = absurd a
+      go (inf false) F h a = r .erfc-inf
+      go (fin true m e) F h a = absurd a
+      go (fin false m e) F h a = plus-mirror r m e F (from-cut p r m e F h)

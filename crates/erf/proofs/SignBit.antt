@@ -1,12 +1,16 @@
--- What a change of sign leaves as it is: the size, and the bits without the sign. Assumes nothing.
+-- The sign bit: what a change of sign leaves as it is (the size, and the bits without the sign), and that f32 holds it as a number.
+-- Assumes nothing.
 use mathlib.Core.Path.{_≡_, refl, sym, ap, _∙_}
-use Prim.Native.Nat.{ℕ, _%_}
+use Prim.Native.Nat.{ℕ, _%_, _^_}
 use native.Mathlib.Nat.{add-mod-left}
 use native.Mathlib.Omega.{arith}
 use mathlib.Core.Bool.{true, false}
-use lib.Ieee.{Float, nan, inf, fin, Format, binary32, binary64, top, neg, toBits}
+use lib.IntN.{pos}
+use lib.Dec.{T, le→leb}
+use lib.Ieee.{Float, nan, inf, fin, Format, binary32, binary64, top, neg, toBits, fits, inFloat}
+use lib.Ieee.Bits.{toBits-lt}
 use Rattle.rounding.proofs.BitOrder.{toBits-neg}
-use Rattle.words.specs.Bits.{sizeWordS}
+use Rattle.words.specs.Bits.{signS}
 use Rattle.words.specs.Fabs.{fabsS}
 
 -- the size of -x is that of x
@@ -27,6 +31,7 @@ rest-neg binary64 (inf false) = refl
 rest-neg f (fin true m e) = sym (ap (λ (n : ℕ). n % top f) (toBits-neg f m e) ∙ add-mod-left (top f) (toBits f (fin false m e)))
 rest-neg f (fin false m e) = ap (λ (n : ℕ). n % top f) (toBits-neg f m e) ∙ add-mod-left (top f) (toBits f (fin false m e))
 
--- the size word of -x is that of x
-pub size-word-neg : (x : Float) → sizeWordS (neg x) ≡ sizeWordS x
-size-word-neg x = omega (arith, rest-neg binary64 x)
+-- the sign bit of an f32, 0 or 1, is an f32
+pub sign-exact : (x : Float) → T (fits binary32 x) → T (inFloat binary32 (pos (signS binary32 x)))
+unfolding inFloat
+sign-exact x F = le→leb (signS binary32 x) (2 ^ 24) (omega (arith, toBits-lt binary32 x F))

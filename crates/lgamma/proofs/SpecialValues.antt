@@ -3,22 +3,20 @@
 use mathlib.Core.Path.{_≡_, refl, ap}
 use mathlib.Core.Bool.{Bool, true, false}
 use lib.IntN.{pos, negsuc}
-use lib.Ieee.{Float, nan, inf, add, sub, mul, div, neg, eq, ofInt, toBits, ofBits}
+use lib.Dec.{lit<}
+use lib.Ieee.{Float, nan, inf, binary64, mul, neg, fits, toBits, ofBits}
 use Rattle.words.specs.F64.{bits}
-use Rattle.words.specs.Floor.{floorS}
-use Rattle.words.specs.Whole.{wholeS}
-use Rattle.trig.specs.KSin.{kSinS}
 use Rattle.log.proofs.SpecialValues.{log-zero}
-use Rattle.sinpi.specs.Sinpi.{turnS, quarterS, sinpiS}
-use Rattle.lgamma.specs.Plan.{Answer, sizeS, reflectedS}
+use Rattle.lgamma.specs.Plan.{Answer, sizeS}
 use Rattle.lgamma.specs.Plan as Plan
 use Rattle.lgamma.specs.Lgamma64.{lgammaS}
+use Rattle.lgamma.proofs.SignLaw.{at-pole}
 
 -- ±v, with the sign of the gamma function
-abbrev plus : Float → Answer
+abbrev pub plus : Float → Answer
 plus v = record { value = v; sign = pos 1 }
 
-abbrev minus : Float → Answer
+abbrev pub minus : Float → Answer
 minus v = record { value = v; sign = negsuc 0 }
 
 pub lgamma-nan : lgammaS nan ≡ plus nan
@@ -40,16 +38,16 @@ lgamma-two = refl
 
 pub lgamma-zero : lgammaS (bits 0) ≡ plus (inf false)
 unfolding Plan.lgammaS toBits ofBits neg
-lgamma-zero = ap (λ (v : Float). plus (neg v)) (log-zero false)
+lgamma-zero = ap (λ (v : Float). plus (neg v)) (log-zero binary64 false)
 
 pub lgamma-minus-zero : lgammaS (bits 0x8000000000000000) ≡ minus (inf false)
 unfolding Plan.lgammaS toBits ofBits neg
-lgamma-minus-zero = ap (λ (v : Float). minus (neg v)) (log-zero false)
+lgamma-minus-zero = ap (λ (v : Float). minus (neg v)) (log-zero binary64 false)
 
 pub lgamma-minus-one : lgammaS (bits 0xBFF0000000000000) ≡ plus (inf false)
-unfolding Plan.lgammaS reflectedS sinpiS turnS quarterS floorS wholeS kSinS add sub mul div neg eq ofInt toBits ofBits
-lgamma-minus-one = refl
+unfolding fits ofBits
+lgamma-minus-one = at-pole 1 (pos 0) tt (lit< tt) refl
 
 pub lgamma-minus-two : lgammaS (bits 0xC000000000000000) ≡ plus (inf false)
-unfolding Plan.lgammaS reflectedS sinpiS turnS quarterS floorS wholeS kSinS add sub mul div neg eq ofInt toBits ofBits
-lgamma-minus-two = refl
+unfolding fits ofBits
+lgamma-minus-two = at-pole 1 (pos 1) tt (lit< tt) refl

@@ -1,10 +1,9 @@
 -- `erf::erf` meets its contract. Assumes nothing.
-use native.Mathlib.Omega.{arith}
-use borrow.Author.Tests.{le-ltb, lt-ltb, le-leb, lt-leb}
+use mathlib.Core.Path.{_∙_}
 use lib.Ieee.{nanBits}
-use Rattle.words.specs.Bits.{sizeWordS}
-use Rattle.erf.specs.Plan as Plan
 use borrow.Author.Needs.{needs}
+use Rattle.erf.specs.Erf64.{erf64}
+use Rattle.erf.proofs.ErfCode as code
 use Rattle.erf.proofs.erf.Statement.{statement}
 use Rattle.erf.proofs.erf.Tie as tie
 
@@ -18,25 +17,23 @@ int-to-float-result : tie.Need-int-to-float-result
 int-to-float-result c = search needs
 
 returns : tie.Need-returns
-unfolding Plan.erfS
 returns c =
-    let w = sizeWordS (c .before .before .before .before .args .x) in
-    simp (le-leb 0x7FF00000 w (omega arith)) (cc)
+    let i = c .before in
+    code.erf-not-finite erf64 (i .before .before .size-word .ensures) (i .before .sign .ensures) (i .if1 .taken)
 
 returns-2 : tie.Need-returns-2
-unfolding Plan.erfS
 returns-2 c =
-    let w = sizeWordS (c .before .before .before .before .before .args .x) in
-    simp (lt-leb 0x7FF00000 w (omega arith), lt-ltb w 0x3FEB0000 (omega arith), lt-ltb w 0x3E300000 (omega arith)) (cc)
+    let i = c .before .before in
+    code.erf-tiny erf64 (i .before .before .size-word .ensures) (i .before .sign .ensures) (i .if1 .left) (c .before .if2 .taken) (c .if3 .taken)
 
 small-requires : tie.Need-small-requires
 small-requires c κs = search needs
 
 returns-3 : tie.Need-returns-3
-unfolding Plan.erfS
 returns-3 c =
-    let w = sizeWordS (c .before .before .before .before .before .before .args .x) in
-    simp (lt-leb 0x7FF00000 w (omega arith), lt-ltb w 0x3FEB0000 (omega arith), le-ltb w 0x3E300000 (omega arith)) (cc)
+    let i = c .before .before .before in
+    code.erf-small erf64 (i .before .before .size-word .ensures) (i .before .sign .ensures) (i .if1 .left)
+    (c .before .before .if2 .taken) (c .before .if3 .left) (c .small .ensures)
 
 erfc2-requires : tie.Need-erfc2-requires
 erfc2-requires c κs = search needs
@@ -45,10 +42,10 @@ signed-requires : tie.Need-signed-requires
 signed-requires c κs = search needs
 
 returns-4 : tie.Need-returns-4
-unfolding Plan.erfS
 returns-4 c =
-    let w = sizeWordS (c .before .before .before .before .before .before .before .args .x) in
-    simp (lt-leb 0x7FF00000 w (omega arith), le-ltb w 0x3FEB0000 (omega arith), lt-ltb w 0x40180000 (omega arith)) (cc)
+    let i = c .before .before .before .before in
+    c .signed .ensures ∙ code.erf-below-6 erf64 (i .before .before .size-word .ensures) (i .before .sign .ensures) (i .if1 .left)
+    (c .before .before .before .if2 .left) (c .before .before .if4 .taken) (c .before .erfc2 .ensures)
 
 float-from-bits-x1p-1022 : tie.Need-float-from-bits-x1p-1022
 unfolding nanBits
@@ -58,10 +55,10 @@ signed-requires-2 : tie.Need-signed-requires-2
 signed-requires-2 c κs = search needs
 
 returns-5 : tie.Need-returns-5
-unfolding Plan.erfS
 returns-5 c =
-    let w = sizeWordS (c .before .before .before .before .before .before .args .x) in
-    simp (lt-leb 0x7FF00000 w (omega arith), le-ltb w 0x3FEB0000 (omega arith), le-ltb w 0x40180000 (omega arith)) (cc)
+    let i = c .before .before .before in
+    c .signed2 .ensures ∙ code.erf-from-6 erf64 (i .before .before .size-word .ensures) (i .before .sign .ensures) (i .if1 .left)
+    (c .before .before .if2 .left) (c .before .if4 .left)
 
 pub erf-spec : {M : Type 1} → statement M
 erf-spec =

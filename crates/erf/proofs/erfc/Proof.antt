@@ -1,14 +1,11 @@
 -- `erf::erfc` meets its contract. Assumes nothing.
-use mathlib.Core.Path.{_≡_}
+use mathlib.Core.Path.{_∙_}
 use mathlib.Core.Logic.{inl, inr}
-use mathlib.Core.Bool.{true, false, not, _||_}
-use lib.Dec.{ltb, eqb}
 use native.Mathlib.Omega.{arith}
-use borrow.Author.Tests.{le-ltb, lt-ltb, le-leb, lt-leb, eq-eqb, ne-eqb}
-use lib.Ieee.{nanBits, binary64}
-use Rattle.words.specs.Bits.{sizeWordS, signS}
-use Rattle.erf.specs.Plan as Plan
+use lib.Ieee.{nanBits}
 use borrow.Author.Needs.{needs}
+use Rattle.erf.specs.Erf64.{erf64}
+use Rattle.erf.proofs.ErfCode as code
 use Rattle.erf.proofs.erfc.Statement.{statement}
 use Rattle.erf.proofs.erfc.Tie as tie
 
@@ -22,85 +19,65 @@ int-to-float-result : tie.Need-int-to-float-result
 int-to-float-result c = search needs
 
 returns : tie.Need-returns
-unfolding Plan.erfcS
 returns c =
-    let w = sizeWordS (c .before .before .before .before .args .x) in
-    simp (le-leb 0x7FF00000 w (omega arith)) (cc)
+    let i = c .before in
+    code.erfc-not-finite erf64 (i .before .before .size-word .ensures) (i .before .sign .ensures) (i .if1 .taken)
 
 returns-2 : tie.Need-returns-2
-unfolding Plan.erfcS
 returns-2 c =
-    let w = sizeWordS (c .before .before .before .before .before .args .x) in
-    simp (lt-leb 0x7FF00000 w (omega arith), lt-ltb w 0x3FEB0000 (omega arith), lt-ltb w 0x3C700000 (omega arith)) (cc)
+    let i = c .before .before in
+    code.erfc-tiny erf64 (i .before .before .size-word .ensures) (i .before .sign .ensures) (i .if1 .left) (c .before .if2 .taken) (c .if3 .taken)
 
 small-requires : tie.Need-small-requires
 small-requires c κs = search needs
 
 returns-3 : tie.Need-returns-3
-unfolding Plan.erfcS
 returns-3 c =
-    let a = c .before .before .before .before .before .before in
-    let x = a .before .args .x in
-    let w = sizeWordS x in
-    let s = signS binary64 x in
-    let below-quarter : (not (eqb s 0) || ltb w 0x3FD00000) ≡ true =
-    elim (c .if4 .came) [
-      | inl h ↦ simp (ne-eqb s 0 (omega (arith, h .taken)))
-      | inr h ↦ simp (eq-eqb s 0 (omega (arith, h .0 .left)), rw (a .size-word .ensures) at (h .1 .taken))
-    ] in
-    simp (lt-leb 0x7FF00000 w (omega arith), lt-ltb w 0x3FEB0000 (omega arith), le-ltb w 0x3C700000 (omega arith), below-quarter) (cc)
+    let i = c .before .before .before .before in
+    code.erfc-below-quarter erf64 (i .before .before .size-word .ensures) (i .before .sign .ensures) (i .if1 .left)
+    (c .before .before .before .if2 .taken) (c .before .before .if3 .left) (c .before .small .ensures)
+    (elim (c .if4 .came) [ inl h ↦ inl (omega (arith, h .taken)) | inr h ↦ inr (omega (arith, h .0 .left), h .1 .taken) ])
 
 returns-4 : tie.Need-returns-4
-unfolding Plan.erfcS
 returns-4 c =
-    let a = c .before .before .before .before .before .before .before in
-    let x = a .before .args .x in
-    let w = sizeWordS x in
-    let s = signS binary64 x in
-    let above-quarter : ltb w 0x3FD00000 ≡ false = rw (a .size-word .ensures) at (c .if5 .left) in
-    simp (lt-leb 0x7FF00000 w (omega arith), lt-ltb w 0x3FEB0000 (omega arith), le-ltb w 0x3C700000 (omega arith), eq-eqb s 0 (omega arith), above-quarter) (cc)
+    let i = c .before .before .before .before .before in
+    code.erfc-from-quarter erf64 (i .before .before .size-word .ensures) (i .before .sign .ensures) (i .if1 .left)
+    (c .before .before .before .before .if2 .taken) (c .before .before .before .if3 .left) (c .before .before .small .ensures)
+    (omega (arith, c .before .if4 .left)) (c .if5 .left)
 
 erfc2-requires : tie.Need-erfc2-requires
 erfc2-requires c κs = search needs
 
 returns-5 : tie.Need-returns-5
-unfolding Plan.erfcS
 returns-5 c =
-    let x = c .before .before .before .before .before .before .before .args .x in
-    let w = sizeWordS x in
-    let s = signS binary64 x in
-    simp (lt-leb 0x7FF00000 w (omega arith), le-ltb w 0x3FEB0000 (omega arith), lt-ltb w 0x403C0000 (omega arith), ne-eqb s 0 (omega arith)) (cc)
+    let i = c .before .before .before .before in
+    code.erfc-minus erf64 (i .before .before .size-word .ensures) (i .before .sign .ensures) (i .if1 .left)
+    (c .before .before .before .if2 .left) (c .before .before .if6 .taken) (c .before .if7 .taken) (c .erfc2 .ensures)
 
 erfc2-requires-2 : tie.Need-erfc2-requires-2
 erfc2-requires-2 c κs = search needs
 
 returns-6 : tie.Need-returns-6
-unfolding Plan.erfcS
 returns-6 c =
-    let x = c .before .before .before .before .before .before .before .args .x in
-    let w = sizeWordS x in
-    let s = signS binary64 x in
-    simp (lt-leb 0x7FF00000 w (omega arith), le-ltb w 0x3FEB0000 (omega arith), lt-ltb w 0x403C0000 (omega arith), eq-eqb s 0 (omega arith)) (cc)
+    let i = c .before .before .before .before in
+    c .erfc22 .ensures ∙ code.erfc-plus erf64 (i .before .before .size-word .ensures) (i .before .sign .ensures) (i .if1 .left)
+    (c .before .before .before .if2 .left) (c .before .before .if6 .taken) (c .before .if7 .left)
 
 float-from-bits-x1p-1022 : tie.Need-float-from-bits-x1p-1022
 unfolding nanBits
 float-from-bits-x1p-1022 c = tt
 
 returns-7 : tie.Need-returns-7
-unfolding Plan.erfcS
 returns-7 c =
-    let x = c .before .before .before .before .before .before .args .x in
-    let w = sizeWordS x in
-    let s = signS binary64 x in
-    simp (lt-leb 0x7FF00000 w (omega arith), le-ltb w 0x3FEB0000 (omega arith), le-ltb w 0x403C0000 (omega arith), ne-eqb s 0 (omega arith)) (cc)
+    let i = c .before .before .before in
+    code.erfc-far-minus erf64 (i .before .before .size-word .ensures) (i .before .sign .ensures) (i .if1 .left)
+    (c .before .before .if2 .left) (c .before .if6 .left) (c .if8 .taken)
 
 returns-8 : tie.Need-returns-8
-unfolding Plan.erfcS
 returns-8 c =
-    let x = c .before .before .before .before .before .before .args .x in
-    let w = sizeWordS x in
-    let s = signS binary64 x in
-    simp (lt-leb 0x7FF00000 w (omega arith), le-ltb w 0x3FEB0000 (omega arith), le-ltb w 0x403C0000 (omega arith), eq-eqb s 0 (omega arith)) (cc)
+    let i = c .before .before .before in
+    code.erfc-far-plus erf64 (i .before .before .size-word .ensures) (i .before .sign .ensures) (i .if1 .left)
+    (c .before .before .if2 .left) (c .before .if6 .left) (c .if8 .left)
 
 pub erfc-spec : {M : Type 1} → statement M
 erfc-spec =

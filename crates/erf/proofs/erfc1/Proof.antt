@@ -1,4 +1,5 @@
 -- `erf::erfc1` meets its contract. Assumes nothing.
+use mathlib.Core.Path.{refl}
 use Rattle.erf.specs.Plan.{erfc1S}
 use borrow.Author.Needs.{needs}
 use Rattle.erf.proofs.erfc1.Statement.{statement}
@@ -21,7 +22,7 @@ horner-requires-2 c κs = search needs
 
 returns : tie.Need-returns
 unfolding erfc1S
-returns c = cc
+returns c = rw (c .horner2 .ensures, c .before .before .horner .ensures, c .before .before .before .before .fabs .ensures) refl
 
 pub erfc1-spec : {M : Type 1} → statement M
 erfc1-spec =

@@ -1,8 +1,8 @@
 -- `erf::erfc2` meets its contract. Assumes nothing.
-use native.Mathlib.Omega.{arith}
-use borrow.Author.Tests.{lt-ltb, le-ltb}
-use Rattle.erf.specs.Plan.{erfc2S}
+use mathlib.Core.Path.{_∙_}
 use borrow.Author.Needs.{needs}
+use Rattle.erf.specs.Erf64.{erf64}
+use Rattle.erf.proofs.ErfCode as code
 use Rattle.erf.proofs.erfc2.Statement.{statement}
 use Rattle.erf.proofs.erfc2.Tie as tie
 
@@ -10,8 +10,7 @@ erfc1-requires : tie.Need-erfc1-requires
 erfc1-requires c κs = search needs
 
 returns : tie.Need-returns
-unfolding erfc2S
-returns c = let w = c .before .before .args .ix in simp (lt-ltb w 0x3FF40000 (omega arith)) (cc)
+returns c = c .erfc1 .ensures ∙ code.erfc2-near erf64 _ (c .before .if1 .taken)
 
 fabs-requires : tie.Need-fabs-requires
 fabs-requires c κs = search needs
@@ -29,8 +28,11 @@ exp-requires-2 : tie.Need-exp-requires-2
 exp-requires-2 c κs = search needs
 
 returns-2 : tie.Need-returns-2
-unfolding erfc2S
-returns-2 c = let w = c .before .before .before .before .before .before .args .ix in simp (le-ltb w 0x3FF40000 (omega arith)) (cc)
+returns-2 c =
+    let short = c .before .before .before in
+    let fabs = short .before in
+    code.erfc2-far erf64 _ (fabs .before .if1 .left) (fabs .fabs .ensures) (short .short .ensures)
+    (c .before .before .exp .ensures) (c .before .ratio .ensures) (c .exp2 .ensures)
 
 pub erfc2-spec : {M : Type 1} → statement M
 erfc2-spec =

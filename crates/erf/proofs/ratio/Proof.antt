@@ -1,8 +1,7 @@
 -- `erf::ratio` meets its contract. Assumes nothing.
-use native.Mathlib.Omega.{arith}
-use borrow.Author.Tests.{lt-ltb, le-ltb}
-use Rattle.erf.specs.Plan.{ratioS}
 use borrow.Author.Needs.{needs}
+use Rattle.erf.specs.Erf64.{erf64}
+use Rattle.erf.proofs.ErfCode as code
 use Rattle.erf.proofs.ratio.Statement.{statement}
 use Rattle.erf.proofs.ratio.Tie as tie
 
@@ -19,8 +18,7 @@ horner-requires-2 : tie.Need-horner-requires-2
 horner-requires-2 c κs = search needs
 
 returns : tie.Need-returns
-unfolding ratioS
-returns c = let w = c .before .before .before .before .before .args .ix in simp (lt-ltb w 0x4006DB6D (omega arith)) (cc)
+returns c = code.ratio-near erf64 _ (c .before .before .before .before .if1 .taken) (c .before .before .horner .ensures) (c .horner2 .ensures)
 
 slice-aggregate-horner-3 : tie.Need-slice-aggregate-horner-3
 slice-aggregate-horner-3 c = search needs
@@ -35,8 +33,7 @@ horner-requires-4 : tie.Need-horner-requires-4
 horner-requires-4 c κs = search needs
 
 returns-2 : tie.Need-returns-2
-unfolding ratioS
-returns-2 c = let w = c .before .before .before .before .before .args .ix in simp (le-ltb w 0x4006DB6D (omega arith)) (cc)
+returns-2 c = code.ratio-far erf64 _ (c .before .before .before .before .if1 .left) (c .before .before .horner3 .ensures) (c .horner4 .ensures)
 
 pub ratio-spec : {M : Type 1} → statement M
 ratio-spec =

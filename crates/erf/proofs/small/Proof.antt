@@ -1,4 +1,5 @@
 -- `erf::small` meets its contract. Assumes nothing.
+use mathlib.Core.Path.{refl}
 use Rattle.erf.specs.Plan.{smallS}
 use borrow.Author.Needs.{needs}
 use Rattle.erf.proofs.small.Statement.{statement}
@@ -18,7 +19,7 @@ horner-requires-2 c κs = search needs
 
 returns : tie.Need-returns
 unfolding smallS
-returns c = cc
+returns c = rw (c .horner2 .ensures, c .before .before .horner .ensures) refl
 
 pub small-spec : {M : Type 1} → statement M
 small-spec =

@@ -1,7 +1,7 @@
 -- `lgamma::below2::below2` meets its contract. Assumes nothing.
-use Rattle.lgamma.specs.Plan.{below2S}
-use borrow.Author.Tests.{le-leb, lt-leb}
 use borrow.Author.Needs.{needs}
+use Rattle.lgamma.specs.Lgamma64.{lgamma64}
+use Rattle.lgamma.proofs.LgammaCode as code
 use Rattle.lgamma.proofs.below2.below2.Statement.{statement}
 use Rattle.lgamma.proofs.below2.below2.Tie as tie
 
@@ -15,9 +15,8 @@ added-requires : tie.Need-added-requires
 added-requires c κs = search needs
 
 returns : tie.Need-returns
-unfolding below2S
 returns c =
-    simp (le-leb _ _ (c .before .before .before .if1 .taken)) (rw (c .added .ensures, c .before .segment-at .ensures, c .before .before .log .ensures))
+    code.to-0·9 lgamma64 _ _ (c .before .segment-at .ensures) (c .added .ensures) (c .before .before .log .ensures) (c .before .before .before .if1 .taken)
 
 segment-at-requires-2 : tie.Need-segment-at-requires-2
 segment-at-requires-2 c κs = search needs
@@ -26,9 +25,7 @@ added-requires-2 : tie.Need-added-requires-2
 added-requires-2 c κs = search needs
 
 returns-2 : tie.Need-returns-2
-unfolding below2S
-returns-2 c =
-    simp (lt-leb _ _ (c .before .before .if1 .left)) (rw (c .added2 .ensures, c .before .segment-at2 .ensures))
+returns-2 c = code.above-0·9 lgamma64 _ _ (c .before .segment-at2 .ensures) (c .added2 .ensures) (c .before .before .if1 .left)
 
 pub below2-spec : {M : Type 1} → statement M
 below2-spec =

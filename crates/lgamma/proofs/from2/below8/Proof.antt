@@ -1,8 +1,8 @@
 -- `lgamma::from2::below8` meets its contract. Assumes nothing.
-use mir.Syntax.{w32}
-use mir.ValLaws.{toZ-ofZ}
-use Rattle.lgamma.specs.Plan.{below8S}
+use mathlib.Core.Path.{refl}
 use borrow.Author.Needs.{needs, sfits-of}
+use Rattle.lgamma.specs.Lgamma64.{lgamma64}
+use Rattle.lgamma.proofs.LgammaCode as code
 use Rattle.lgamma.proofs.from2.below8.Statement.{statement}
 use Rattle.lgamma.proofs.from2.below8.Tie as tie
 
@@ -31,24 +31,17 @@ log-requires : tie.Need-log-requires
 log-requires c κs = search needs
 
 returns : tie.Need-returns
-unfolding below8S
 returns c =
-    let w = c .before .before .before .before .before .before .before .before .whole in
-    let i = toZ-ofZ w32 (w .result) (sfits-of (w .ok)) in
     let h = c .before .before .before in
-    rw
-    (c .log .ensures, c .before .product .ensures, h .horner2 .ensures, h .before .before .horner .ensures, i, w .ensures)
-    (simp (rw (i, w .ensures) at (c .before .before .if1 .taken)))
+    let w = h .before .before .before .before .before .whole in
+    code.by-product lgamma64 _ (sfits-of (w .ok)) (w .ensures) refl (h .before .before .horner .ensures) (h .horner2 .ensures)
+    (c .before .product .ensures) (c .log .ensures) (c .before .before .if1 .taken)
 
 returns-2 : tie.Need-returns-2
-unfolding below8S
 returns-2 c =
-    let w = c .before .before .before .before .before .before .whole in
-    let i = toZ-ofZ w32 (w .result) (sfits-of (w .ok)) in
     let h = c .before in
-    rw
-    (h .horner2 .ensures, h .before .before .horner .ensures, i, w .ensures)
-    (simp (rw (i, w .ensures) at (c .if1 .left)))
+    let w = h .before .before .before .before .before .whole in
+    code.by-itself lgamma64 _ (sfits-of (w .ok)) (w .ensures) refl (h .before .before .horner .ensures) (h .horner2 .ensures) (c .if1 .left)
 
 pub below8-spec : {M : Type 1} → statement M
 below8-spec =

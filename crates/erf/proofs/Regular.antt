@@ -1,0 +1,97 @@
+-- What the laws of erf and erfc at -x ask of a plan: `Regular`. Its fields are tests and equations that the checker works out.
+-- What follows, for a finite x with no minus sign and its word ix:
+--   `ix-neg`: ix does not see the sign; `ix-finite`: it is below the infinity's;
+--   `from-cut`: where x is from a cut's value on, ix is from the cut on;
+--   `small-plus`: where ix is from 2 ^ -28 up to 0.84375, the sum x + x * y, which is erf there, is above zero.
+-- Assumes nothing.
+use mathlib.Core.Path.{_≡_, sym, ap, _∙_, subst}
+use mathlib.Core.List.{[]}
+use Prim.Native.Nat.{ℕ, _*_, _/_, _%_, _^_, _≤_, _<_}
+use native.Mathlib.Nat.{le-of-lt, le-div-iff-mul-le, div-lt-iff-lt-mul, mul-lt-mul-of-pos-right}
+use mathlib.Core.Bool.{true, false}
+use lib.IntN.{ℤ}
+use lib.Dec.{T}
+use lib.Pow.{pow-pos}
+use lib.Ieee.{Float, nan, inf, fin, Format, top, add, sub, mul, neg, le, ofBits, toBits, fits}
+use lib.Ieee.Positive.{positive, between}
+use Rattle.rounding.proofs.BitOrder.{endless, toBits-under}
+use Rattle.rounding.proofs.Range.{In, halvedTest, halved}
+use Rattle.words.specs.Fabs.{fabsS}
+use Rattle.words.proofs.PatternLaws.{unsigned-rest}
+use Rattle.words.proofs.CutLaws.{bits-from, from-bits, upto-bits}
+use Rattle.erf.specs.Plan.{Plan}
+use Rattle.erf.specs.Plan as Plan
+use Rattle.erf.proofs.SignBit.{rest-neg}
+use Rattle.erf.proofs.SmallSum.{sumE, sum-is}
+
+-- the value at a cut, where ix is without the pattern's k low bits
+abbrev pub valueAt : Plan → ℕ → ℕ → Float
+valueAt p k w = ofBits (p .format) (w * 2 ^ k)
+
+pub record Regular (p : Plan) : Type 0 where
+  -- ix is the pattern without the sign bit, and without so many low bits
+  pub without : ℕ
+  pub ix-is : (x : Float) → p .ix x ≡ toBits (p .format) x % top (p .format) / 2 ^ without
+  -- the infinity's pattern, and 0.84375 below it
+  pub infinity-is : p .notFinite * 2 ^ without ≡ endless (p .format)
+  pub below-infinity : p .at0·84375 < p .notFinite
+  -- constants above zero
+  pub eight-plus : T (positive (p .eight))
+  pub EFX8-plus : T (positive (p .EFX8))
+  pub tiny-plus : T (positive (p .tiny))
+  pub one-plus : T (positive (p .one))
+  pub cut-plus : T (positive (valueAt p without (p .at0·84375)))
+  -- from 2 ^ -28 to 0.84375 erf lies from tiny to 1: the terms of its sum do not cancel
+  pub small-test : T (halvedTest 4 (p .format) (p .tiny) (p .one) (sumE p) [] (valueAt p without (p .at2^-28)) (valueAt p without (p .at0·84375)))
+  -- what is not finite
+  pub erf-nan : Plan.erfS p nan ≡ nan
+  pub erf-inf : Plan.erfS p (inf true) ≡ neg (Plan.erfS p (inf false))
+  pub erfc-inf : Plan.erfcS p (inf true) ≡ sub (p .format) (p .two) (Plan.erfcS p (inf false))
+  -- from 28 on
+  pub far : sub (p .format) (p .two) (p .tiny) ≡ sub (p .format) (p .two) (mul (p .format) (p .tiny) (p .tiny))
+
+module _ (p : Plan) (r : Regular p) where
+  abbrev f : Format
+  f = p .format
+
+  abbrev unit : ℕ
+  unit = 2 ^ r .without
+
+  abbrev at : ℕ → Float
+  at w = valueAt p (r .without) w
+
+  unit-pos : 0 < unit
+  unit-pos = pow-pos (r .without)
+
+  pub ix-neg : (x : Float) → p .ix (neg x) ≡ p .ix x
+  ix-neg x = r .ix-is (neg x) ∙ ap (λ (n : ℕ). n / unit) (rest-neg f x) ∙ sym (r .ix-is x)
+
+  cut-inside : p .at0·84375 * unit < endless f
+  cut-inside = subst (λ (n : ℕ). p .at0·84375 * unit < n) (r .infinity-is) (mul-lt-mul-of-pos-right (r .below-infinity) unit-pos)
+
+  module _ (m : ℕ) (e : ℤ) (F : T (fits f (fin false m e))) where
+    abbrev x : Float
+    x = fin false m e
+
+    pub ix-finite : p .ix x < p .notFinite
+    ix-finite =
+        rw (r .ix-is x)
+        (div-lt-iff-lt-mul unit-pos .1 (rw (r .infinity-is, unsigned-rest f false m e F) (toBits-under f m e F)))
+
+    pub from-cut : T (le (at (p .at0·84375)) x) → p .at0·84375 ≤ p .ix x
+    unfolding fabsS
+    from-cut h = rw (r .ix-is x) (le-div-iff-mul-le unit-pos .1 (bits-from f x F tt (p .at0·84375 * unit) cut-inside h))
+
+    small-in : p .at2^-28 ≤ p .ix x → p .ix x < p .at0·84375 → In (at (p .at2^-28)) (at (p .at0·84375)) x
+    unfolding fabsS
+    small-in lo hi = (
+      from-bits f x F tt (p .at2^-28 * unit) (le-div-iff-mul-le unit-pos .0 (rw (r .ix-is x) at lo)),
+      upto-bits f x F tt (p .at0·84375 * unit) cut-inside (le-of-lt (div-lt-iff-lt-mul unit-pos .0 (rw (r .ix-is x) at hi))),
+    )
+
+    pub small-plus : p .at2^-28 ≤ p .ix x → p .ix x < p .at0·84375 → T (positive (add f x (mul f x (Plan.smallS p x))))
+    small-plus lo hi =
+        let i =
+        subst (In (p .tiny) (p .one)) (sum-is p x)
+        (halved 4 f (p .tiny) (p .one) (sumE p) [] [] (at (p .at2^-28)) (at (p .at0·84375)) x tt (r .small-test) tt (small-in lo hi)) in
+        between (p .tiny) (add f x (mul f x (Plan.smallS p x))) (p .one) (r .tiny-plus) (r .one-plus) (i .0) (i .1)

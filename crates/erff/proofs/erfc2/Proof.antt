@@ -1,0 +1,48 @@
+-- `erff::erfc2` meets its contract. Assumes nothing.
+use mathlib.Core.Path.{_∙_}
+use borrow.Author.Needs.{needs}
+use Rattle.erf.proofs.ErfCode as code
+use Rattle.erff.specs.Erff.{erf32}
+use Rattle.erff.proofs.erfc2.Statement.{statement}
+use Rattle.erff.proofs.erfc2.Tie as tie
+
+erfc1-requires : tie.Need-erfc1-requires
+erfc1-requires c κs = search needs
+
+returns : tie.Need-returns
+returns c = c .erfc1 .ensures ∙ code.erfc2-near erf32 _ (c .before .if1 .taken)
+
+fabsf-requires : tie.Need-fabsf-requires
+fabsf-requires c κs = search needs
+
+short-requires : tie.Need-short-requires
+short-requires c κs = search needs
+
+expf-requires : tie.Need-expf-requires
+expf-requires c κs = search needs
+
+ratio-requires : tie.Need-ratio-requires
+ratio-requires c κs = search needs
+
+expf-requires-2 : tie.Need-expf-requires-2
+expf-requires-2 c κs = search needs
+
+returns-2 : tie.Need-returns-2
+returns-2 c =
+    let short = c .before .before .before in
+    let fabs = short .before in
+    code.erfc2-far erf32 _ (fabs .before .if1 .left) (fabs .fabsf .ensures) (short .short .ensures)
+    (c .before .before .expf .ensures) (c .before .ratio .ensures) (c .expf2 .ensures)
+
+pub erfc2-spec : {M : Type 1} → statement M
+erfc2-spec =
+    tie.close
+    (tie.spec
+    erfc1-requires
+    returns
+    fabsf-requires
+    short-requires
+    expf-requires
+    ratio-requires
+    expf-requires-2
+    returns-2)

@@ -1,0 +1,84 @@
+-- `erff::erff` meets its contract. Assumes nothing.
+use mathlib.Core.Path.{_∙_}
+use lib.Ieee.{nanBits}
+use denote.Floats.{passes}
+use borrow.Author.Needs.{needs}
+use Rattle.erf.proofs.SignBit.{sign-exact}
+use Rattle.erf.proofs.ErfCode as code
+use Rattle.erff.specs.Erff.{erf32}
+use Rattle.erff.proofs.erff.Statement.{statement}
+use Rattle.erff.proofs.erff.Tie as tie
+
+size-bits-requires : tie.Need-size-bits-requires
+size-bits-requires c κs = search needs
+
+sign-f32-requires : tie.Need-sign-f32-requires
+sign-f32-requires c κs = search needs
+
+int-to-float-result : tie.Need-int-to-float-result
+int-to-float-result c =
+    let a = c .before .before in
+    let at = a .before .before in
+    rw (a .sign-f32 .ensures) (sign-exact (at .args .x) (passes _ (at .good .0 .1)))
+
+returns : tie.Need-returns
+returns c =
+    let i = c .before in
+    code.erf-not-finite erf32 (i .before .before .size-bits .ensures) (i .before .sign-f32 .ensures) (i .if1 .taken)
+
+returns-2 : tie.Need-returns-2
+returns-2 c =
+    let i = c .before .before in
+    code.erf-tiny erf32 (i .before .before .size-bits .ensures) (i .before .sign-f32 .ensures) (i .if1 .left) (c .before .if2 .taken) (c .if3 .taken)
+
+small-requires : tie.Need-small-requires
+small-requires c κs = search needs
+
+returns-3 : tie.Need-returns-3
+returns-3 c =
+    let i = c .before .before .before in
+    code.erf-small erf32 (i .before .before .size-bits .ensures) (i .before .sign-f32 .ensures) (i .if1 .left)
+    (c .before .before .if2 .taken) (c .before .if3 .left) (c .small .ensures)
+
+erfc2-requires : tie.Need-erfc2-requires
+erfc2-requires c κs = search needs
+
+signed-requires : tie.Need-signed-requires
+signed-requires c κs = search needs
+
+returns-4 : tie.Need-returns-4
+returns-4 c =
+    let i = c .before .before .before .before in
+    c .signed .ensures ∙ code.erf-below-6 erf32 (i .before .before .size-bits .ensures) (i .before .sign-f32 .ensures) (i .if1 .left)
+    (c .before .before .before .if2 .left) (c .before .before .if4 .taken) (c .before .erfc2 .ensures)
+
+float-from-bits-x1p-120 : tie.Need-float-from-bits-x1p-120
+unfolding nanBits
+float-from-bits-x1p-120 c = tt
+
+signed-requires-2 : tie.Need-signed-requires-2
+signed-requires-2 c κs = search needs
+
+returns-5 : tie.Need-returns-5
+returns-5 c =
+    let i = c .before .before .before in
+    c .signed2 .ensures ∙ code.erf-from-6 erf32 (i .before .before .size-bits .ensures) (i .before .sign-f32 .ensures) (i .if1 .left)
+    (c .before .before .if2 .left) (c .before .if4 .left)
+
+pub erff-spec : {M : Type 1} → statement M
+erff-spec =
+    tie.close
+    (tie.spec
+    size-bits-requires
+    sign-f32-requires
+    int-to-float-result
+    returns
+    returns-2
+    small-requires
+    returns-3
+    erfc2-requires
+    signed-requires
+    returns-4
+    float-from-bits-x1p-120
+    signed-requires-2
+    returns-5)

@@ -1,0 +1,2 @@
+pub mod Lgammaf
+pub mod Segment
