@@ -74,7 +74,8 @@ pattern-lt b c h = lt-of-not-le (λ (k : c ≤ b). not-le-of-lt h (value-le b c 
 
 -- ---- the linear part: L units are 1, E is twice the error of a sum
 
-size-of-sum : (u : Bool) (G : ℕ) (s : Bool) (X : ℕ) (t : Bool) (Y E : ℕ) → NearSum u G s X t Y E → 2 * G ≤ 2 * (X + Y) + E
+-- a sum is at most the sum of the sizes, and E / 2
+pub size-of-sum : (u : Bool) (G : ℕ) (s : Bool) (X : ℕ) (t : Bool) (Y E : ℕ) → NearSum u G s X t Y E → 2 * G ≤ 2 * (X + Y) + E
 size-of-sum u G s X false Y E h = size-of-difference u G s X true Y E h
 size-of-sum u G s X true Y E h = size-of-difference u G s X false Y E h
 

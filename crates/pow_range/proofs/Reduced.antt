@@ -120,7 +120,8 @@ left-over : (p p' g g' s s' c c' d d' e e' E K : ℕ)
     → (2 * e ≤ 2 * e' + 2 * K + 3 * E) × (2 * e' ≤ 2 * e + 2 * K + 3 * E)
 left-over p p' g g' s s' c c' d d' e e' E K a b i j k l m n = (omega arith, omega arith)
 
-one-side : (s : Bool) (X K : ℕ) → 2 * P s X ≤ 2 * N s X + K → 2 * N s X ≤ 2 * P s X + K → 2 * X ≤ K
+-- ±X, within K / 2 of zero on either side
+pub one-side : (s : Bool) (X K : ℕ) → 2 * P s X ≤ 2 * N s X + K → 2 * N s X ≤ 2 * P s X + K → 2 * X ≤ K
 one-side false X K a b = omega arith
 one-side true X K a b = omega arith
 

@@ -8,8 +8,9 @@ use Rattle.words.specs.Floor.{floorS}
 use Rattle.words.specs.Whole.{wholeS}
 use Rattle.poly.specs.Horner.{hornerS}
 use Rattle.scalbn.specs.Scalbn.{scalbnS}
-use Rattle.exp.specs.Exp as exp
-use Rattle.exp.specs.Exp.{primaryS, multipleS, reducedS, expS}
+use Rattle.exp.specs.Plan as exp
+use Rattle.exp.specs.Plan.{primaryS, multipleS, reducedS}
+use Rattle.exp.specs.Exp.{expS}
 use Rattle.pow_log.specs.Log2.{seriesS, intervalS, normalS, log2S}
 use Rattle.pow_exp.specs.Exp2.{fractionS, scaledS, exp2S, boundedS, productS}
 use Rattle.pow.specs.Pow.{signedS, plainS, finiteS, specialYS, powAtS, powS}

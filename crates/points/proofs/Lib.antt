@@ -1,0 +1,2 @@
+-- Points: the whole table
+pub mod Points

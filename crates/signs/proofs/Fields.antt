@@ -1,0 +1,117 @@
+-- What specs/Value says of the value of a bit pattern, by the pattern's fields: `Same x s a c` says of x what specs/Pattern says of a sign s and a size
+-- a / c, and holds of the value of every finite pattern (`pattern-same`). Assumes nothing.
+use mathlib.Core.Path.{_≡_, sym, ap, _∙_, subst}
+use Prim.Native.Nat.{ℕ, zero, suc, _+_, _*_, _/_, _%_, _^_, _<_, _≤_}
+use native.Mathlib.Nat.{add-zero, zero-add, zero-mul, mul-comm, mul-assoc, mul-one, mul-pos, mul-right-comm, eq-of-mul-eq-mul-right, pow-succ'}
+use native.Mathlib.Nat.{div-add-mod', mul-mod-left, mod-lt, div-eq-of-lt, pos-of-div-pos, zero-lt-suc, lt-irrefl, lt-of-lt-of-le}
+use native.Mathlib.Omega.{arith}
+use mathlib.Core.Bool.{Bool, true}
+use lib.IntN.{ℤ}
+use lib.Dec.{leb}
+use lib.Pow.{pow-pos, pow-mono}
+use lib.Ieee.{Float, nan, inf, fin, binary64, up, down, ofFields, ofBits}
+use lib.Ieee.Exact.{HasValue}
+use lib.Ieee.Fits.{up-pos, down-pos}
+use lib.Ieee.Nearest.{div-same}
+use Rattle.rounding.proofs.Signed.{value-longer}
+use Rattle.rounding.proofs.BitOrder.{scaled, fields-val, bits-open}
+use Rattle.words.proofs.PatternLaws.{field-rest}
+use Rattle.signs.specs.Value.{Finite, Minus, wholePart, NegativeWhole}
+use Rattle.signs.specs.Pattern.{exponent, fraction, FiniteBits}
+
+pub record Same (x : Float) (s : Bool) (a c : ℕ) : Type 0 where
+  pub finite : Finite x
+  pub minus : Minus x → s ≡ true
+  pub back : s ≡ true → Minus x
+  pub part : wholePart x ≡ a / c
+  pub whole : NegativeWhole x → (s ≡ true) × (0 < a / c) × (a % c ≡ 0)
+  pub pole : (s ≡ true) × (0 < a / c) × (a % c ≡ 0) → NegativeWhole x
+
+-- ---- two fractions of one size, a / b and c / d
+
+-- with no remainder in the first there is none in the second
+no-rest : (a b c d : ℕ) → 0 < b → a * d ≡ c * b → a % b ≡ 0 → c % d ≡ 0
+no-rest a b c d B h z = ap (λ (n : ℕ). n % d) second ∙ mul-mod-left (a / b) d
+  where
+    first : a ≡ a / b * b
+    first = sym (div-add-mod' a b) ∙ ap (λ (n : ℕ). a / b * b + n) z ∙ add-zero (a / b * b)
+
+    second : c ≡ a / b * d
+    second = eq-of-mul-eq-mul-right b B c (a / b * d) (sym h ∙ ap (λ (n : ℕ). n * d) first ∙ mul-right-comm (a / b) b d)
+
+-- a / b is above zero where a is and no remainder is left
+quotient-pos : (a b : ℕ) → 0 < a → a % b ≡ 0 → 0 < a / b
+quotient-pos a b A z = go (a / b) (div-add-mod' a b)
+  where
+    go : (q : ℕ) → q * b + a % b ≡ a → 0 < q
+    go zero h = absurd (lt-irrefl 0 (subst (λ (n : ℕ). 0 < n) (sym h ∙ ap (λ (n : ℕ). n + a % b) (zero-mul b) ∙ zero-add (a % b) ∙ z) A))
+    go (suc q) h = zero-lt-suc q
+
+numerator-pos : (m : ℕ) (e : ℤ) → 0 < m * up e / down e → 0 < m
+numerator-pos zero e h = absurd (lt-irrefl 0 (subst (λ (n : ℕ). 0 < n) (zero-mul (up e)) (pos-of-div-pos (down e) h)))
+numerator-pos (suc m) e h = zero-lt-suc m
+
+-- ---- x is ±a / c
+by-value : (x : Float) (s : Bool) (a c : ℕ) → 0 < c → HasValue x s a c → Same x s a c
+by-value nan s a c C v = absurd v
+by-value (inf t) s a c C v = absurd v
+by-value (fin t m e) s a c C v =
+    let M = m * up e in
+    let D = down e in
+    let q = div-same M D a c (down-pos e) C (v .1) in
+    record {
+      finite = tt;
+      minus = λ h. sym (v .0) ∙ h;
+      back = λ h. v .0 ∙ h;
+      part = q;
+      whole = λ h. (sym (v .0) ∙ h .0, rw (← q) (quotient-pos M D (mul-pos (h .1) (up-pos e)) (h .2)), no-rest M D a c (down-pos e) (v .1) (h .2));
+      pole = λ h. (v .0 ∙ h .0, numerator-pos m e (rw q (h .1)), no-rest a c M D C (sym (v .1)) (h .2));
+    }
+
+-- ---- an exponent's field E and digits F, H the weight of the field, L the units in 1
+by-fields : (x : Float) (s : Bool) (E F H L : ℕ) → F < H → H ≤ L → HasValue x s (scaled E F H) L → Same x s ((H + F) * 2 ^ E) (L * 2)
+by-fields x s (suc E) F H L f h v =
+    by-value x s ((H + F) * 2 ^ suc E) (L * 2) (double L (lt-of-lt-of-le (more f) h))
+    (subst (λ (a : ℕ). HasValue x s a (L * 2)) next (value-longer x s ((H + F) * 2 ^ E) L 2 v))
+  where
+    more : {a b : ℕ} → a < b → 0 < b
+    more h = omega arith
+
+    double : (L : ℕ) → 0 < L → 0 < L * 2
+    double L h = omega arith
+
+    next : (H + F) * 2 ^ E * 2 ≡ (H + F) * 2 ^ suc E
+    next = mul-assoc (H + F) (2 ^ E) 2 ∙ ap (λ (n : ℕ). (H + F) * n) (mul-comm (2 ^ E) 2 ∙ sym (pow-succ' 2 E))
+by-fields x s zero F H L f h v =
+    let k = by-value x s F L (more F H L f h) v in
+    record {
+      finite = k .finite;
+      minus = k .minus;
+      back = k .back;
+      part = k .part ∙ none ∙ sym less;
+      whole = λ w. absurd (lt-irrefl 0 (subst (λ (n : ℕ). 0 < n) none (k .whole w .1)));
+      pole = λ w. absurd (lt-irrefl 0 (subst (λ (n : ℕ). 0 < n) less (w .1)));
+    }
+  where
+    more : (F H L : ℕ) → F < H → H ≤ L → 0 < L
+    more F H L f h = omega arith
+
+    none : F / L ≡ 0
+    none = div-eq-of-lt (lt-of-lt-of-le f h)
+
+    below : (F H L : ℕ) → F < H → H ≤ L → H + F < L * 2
+    below F H L f h = omega arith
+
+    less : (H + F) * 2 ^ 0 / (L * 2) ≡ 0
+    less = ap (λ (n : ℕ). n / (L * 2)) (mul-one (H + F)) ∙ div-eq-of-lt (below F H L f h)
+
+-- ---- the pattern n
+pub pattern-same : (n : ℕ) → FiniteBits n
+    → Same (ofBits binary64 n) (leb (2 ^ 63) n) ((2 ^ 52 + fraction n) * 2 ^ exponent n) (2 ^ 1075)
+pattern-same n h =
+    let s = leb (2 ^ 63) n in
+    let room : 52 ≤ 1074 = omega arith in
+    by-fields (ofBits binary64 n) s (exponent n) (fraction n) (2 ^ 52) (2 ^ 1074) (mod-lt n (pow-pos 52)) (pow-mono room)
+    (subst (λ (z : Float). HasValue z s (scaled (exponent n) (fraction n) (2 ^ 52)) (2 ^ 1074))
+    (sym (bits-open binary64 n ∙ ap (λ (E : ℕ). ofFields binary64 s E (fraction n)) (field-rest binary64 n)))
+    (fields-val binary64 s (exponent n) (fraction n) h))

@@ -1,0 +1,29 @@
+-- tgamma's sign, region by region, and the theorem.
+-- LanczosRange: the Lanczos quotient, and what the formula makes of it, by intervals
+pub mod LanczosRange
+-- Correction: the correction of r by the error of y keeps r's sign
+pub mod Correction
+-- LastLine: so do the two products of the last line
+pub mod LastLine
+-- Positive: the formula for a positive x
+pub mod Positive
+-- Reflection: the quotient of the reflection, its sign and its size
+pub mod Reflection
+-- FloorTests: the test x == floor(x) by the value of x
+pub mod FloorTests
+-- Vanished: the zeros from -184 down
+pub mod Vanished
+-- Regions: the regions other than the Lanczos formula, and what is left for that
+pub mod Regions
+-- Negative: the negative numbers that are not whole
+pub mod Negative
+-- Cases: tgamma and lgamma_r together, by the sign and the whole part of x
+pub mod Cases
+-- Signs: THE THEOREM, of values
+pub mod Signs
+-- Fields: the value of a bit pattern, by its fields
+pub mod Fields
+-- PatternSigns: THE THEOREM, of bit patterns
+pub mod PatternSigns
+-- EntrySigns: the theorem about the C entries
+pub mod EntrySigns
