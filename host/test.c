@@ -24,12 +24,18 @@ static void check(int good, const char *what, size_t at) {
 
 /* ---- the model: the header's table, and what a batch does with it */
 
-static size_t body_length(uint8_t kind) { return 1 <= kind && kind <= 4 ? 8 : 0; }
+static const uint8_t KINDS[] = {1, 2, 3, 4, 17, 19, 20};
 
-static uint64_t word(const uint8_t *bytes) {
+static size_t body_length(uint8_t kind) {
+    if (1 <= kind && kind <= 4)
+        return 8;
+    return kind == 17 || kind == 19 || kind == 20 ? 4 : 0;
+}
+
+static uint64_t word(const uint8_t *bytes, size_t width) {
     uint64_t x = 0;
-    for (int i = 7; i >= 0; i--)
-        x = x << 8 | bytes[i];
+    while (width-- > 0)
+        x = x << 8 | bytes[width];
     return x;
 }
 
@@ -38,19 +44,27 @@ static uint64_t value(uint8_t kind, uint64_t x) {
     case 1: return rvt_tgamma(x);
     case 2: return rvt_lgamma_r_value(x);
     case 3: return rvt_erf(x);
-    default: return rvt_erfc(x);
+    case 4: return rvt_erfc(x);
+    case 17: return rvt_lgammaf_r_value((uint32_t)x);
+    case 19: return rvt_erff((uint32_t)x);
+    default: return rvt_erfcf((uint32_t)x);
     }
 }
 
+static int has_sign(uint8_t kind) { return kind == 2 || kind == 17; }
+
+static int sign(uint8_t kind, uint64_t x) { return kind == 2 ? rvt_lgamma_r_sign(x) : rvt_lgammaf_r_sign((uint32_t)x); }
+
 static size_t answer(uint8_t *to, uint8_t kind, const uint8_t *body) {
-    uint64_t y = value(kind, word(body));
+    size_t width = body_length(kind);
+    uint64_t x = word(body, width), y = value(kind, x);
     to[0] = (uint8_t)(kind + 128);
-    for (int i = 0; i < 8; i++)
+    for (size_t i = 0; i < width; i++)
         to[1 + i] = (uint8_t)(y >> 8 * i);
-    if (kind != 2)
-        return 9;
-    to[9] = rvt_lgamma_r_sign(word(body)) == 1 ? 1 : 255;
-    return 10;
+    if (!has_sign(kind))
+        return 1 + width;
+    to[1 + width] = sign(kind, x) == 1 ? 1 : 255;
+    return 2 + width;
 }
 
 struct report {
@@ -142,13 +156,15 @@ static size_t load(const char *name, uint8_t *to) {
 /* Each function's entry against the stored answers, and the batch on all of the requests: the answers
  * are those stored but for the closing byte 255 and the stop code. */
 static void stored(const uint8_t *requests, size_t length, const uint8_t *answers, size_t answers_length) {
-    for (size_t read = 0, at = 0; at + 2 < answers_length; read += 9) {
+    for (size_t read = 0, at = 0; at + 2 < answers_length;) {
         uint8_t kind = requests[read];
-        uint64_t x = word(requests + read + 1);
-        check(value(kind, x) == word(answers + at + 1), "a function's entry", read);
-        if (kind == 2)
-            check(rvt_lgamma_r_sign(x) == (answers[at + 9] == 1 ? 1 : -1), "rvt_lgamma_r_sign", read);
-        at += kind == 2 ? 10 : 9;
+        size_t width = body_length(kind);
+        uint64_t x = word(requests + read + 1, width);
+        check(value(kind, x) == word(answers + at + 1, width), "a function's entry", read);
+        if (has_sign(kind))
+            check(sign(kind, x) == (answers[at + 1 + width] == 1 ? 1 : -1), "a log-gamma's sign", read);
+        read += 1 + width;
+        at += 1 + width + (size_t)has_sign(kind);
     }
     uint64_t written = rvt_batch_written(requests, length, answers_block, answers_length - 2);
     check(written == answers_length - 2, "all is written", length);
@@ -158,13 +174,16 @@ static void stored(const uint8_t *requests, size_t length, const uint8_t *answer
     batch(requests, length, answers_length - 2);
 }
 
-/* Every room from none to more than enough, and every length of cut requests, byte by byte. */
-static void byte_by_byte(const uint8_t *requests, size_t length) {
-    size_t enough = 2 * length + 1;
-    for (size_t room = 0; room <= enough; room++)
+/* Every room from none to more than enough, byte by byte. */
+static void every_room(const uint8_t *requests, size_t length) {
+    for (size_t room = 0; room <= 2 * length + 1; room++)
         batch(requests, length, room);
+}
+
+/* Every length of cut requests, byte by byte, in steps of 7 of the room. */
+static void every_cut(const uint8_t *requests, size_t length) {
     for (size_t cut = 0; cut <= length; cut++)
-        for (size_t room = 0; room <= enough; room += 7)
+        for (size_t room = 0; room <= 2 * length + 1; room += 7)
             batch(requests, cut, room);
 }
 
@@ -182,9 +201,10 @@ static void damaged(const uint8_t *requests, size_t length) {
         for (size_t at = 0; at < sizeof noise; at++) {
             seed = seed * 6364136223846793005u + 1442695040888963407u;
             noise[at] = (uint8_t)(seed >> 56);
-            if (at % 9 == 0 && noise[at] % 8 != 0)
-                noise[at] = (uint8_t)(1 + noise[at] % 4);
         }
+        /* records of known kinds at the front, seven in eight times each */
+        for (size_t at = 0; at < sizeof noise && noise[at] % 8 != 0; at += 1 + body_length(noise[at]))
+            noise[at] = KINDS[noise[at] % sizeof KINDS];
         batch(noise, (size_t)(seed >> 32) % (sizeof noise + 1), (size_t)(seed >> 40) % 300);
     }
 }
@@ -203,7 +223,8 @@ int main(int count, char **words) {
         size_t length = load(words[i], requests), answers_length = load(words[i + 1], answers);
         stored(requests, length, answers, answers_length);
         size_t few = length < 50 ? length : 50;
-        byte_by_byte(requests, few);
+        every_room(requests, length < 4096 ? length : few);
+        every_cut(requests, few);
         damaged(requests, few);
     }
     empty();

@@ -35,6 +35,13 @@ int32_t rvt_lgamma_r_sign(uint64_t x);
 uint64_t rvt_erf(uint64_t x);
 uint64_t rvt_erfc(uint64_t x);
 
+/* The same from the bits of an f32 to the bits of an f32. A NaN's answer is 0x7FC00000. The sign that
+ * rvt_lgammaf_r_sign reports is the one that rvt_lgamma_r_sign reports of the same number. */
+uint32_t rvt_lgammaf_r_value(uint32_t x);
+int32_t rvt_lgammaf_r_sign(uint32_t x);
+uint32_t rvt_erff(uint32_t x);
+uint32_t rvt_erfcf(uint32_t x);
+
 /* The codes that a batch stops with. */
 enum rvt_stop {
     RVT_DONE = 0,    /* the requests are used up */
@@ -46,14 +53,17 @@ enum rvt_stop {
 /*
  * A batch answers whole records from the front of the requests, one after another, until one of the
  * codes says why it stopped. A request is a byte of kind and the argument's bits, the lowest byte
- * first; an answer is the kind plus 128, the value's bits and, for kind 2, a sign byte, 1 for plus and
- * 255 for minus.
+ * first; an answer is the kind plus 128, the value's bits and, for kinds 2 and 17, a sign byte, 1 for
+ * plus and 255 for minus.
  *
- *     kind  function  request bytes  answer bytes
- *     1     tgamma    9              9
- *     2     lgamma_r  9              10
- *     3     erf       9              9
- *     4     erfc      9              9
+ *     kind  function   request bytes  answer bytes
+ *     1     tgamma     9              9
+ *     2     lgamma_r   9              10
+ *     3     erf        9              9
+ *     4     erfc       9              9
+ *     17    lgammaf_r  5              6
+ *     19    erff       5              5
+ *     20    erfcf      5              5
  *
  * Each of these four does the whole batch: the requests stay as they are, the answers stand at the
  * front of the answer buffer, and the bytes behind them stay as they were. Called one after another

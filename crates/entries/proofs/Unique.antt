@@ -12,6 +12,10 @@ use Rattle.entries.proofs.rvt_lgamma_r_value.Reads as value
 use Rattle.entries.proofs.rvt_lgamma_r_sign.Reads as sign
 use Rattle.entries.proofs.rvt_erf.Reads as erf
 use Rattle.entries.proofs.rvt_erfc.Reads as erfc
+use Rattle.entries.proofs.rvt_lgammaf_r_value.Reads as valuef
+use Rattle.entries.proofs.rvt_lgammaf_r_sign.Reads as signf
+use Rattle.entries.proofs.rvt_erff.Reads as erff
+use Rattle.entries.proofs.rvt_erfcf.Reads as erfcf
 use Rattle.entries.proofs.rvt_batch_code.Reads as code
 use Rattle.entries.proofs.rvt_batch_records.Reads as records
 use Rattle.entries.proofs.rvt_batch_read.Reads as read
@@ -31,6 +35,18 @@ erf-determined κs a r r' s s' p q = p ∙ sym q
 
 pub erfc-determined : (κs : Lfts 0) (a : _) (r r' : ℕ) (s s' : _) → erfc.Post κs a r s → erfc.Post κs a r' s' → r ≡ r'
 erfc-determined κs a r r' s s' p q = p ∙ sym q
+
+pub valuef-determined : (κs : Lfts 0) (a : _) (r r' : ℕ) (s s' : _) → valuef.Post κs a r s → valuef.Post κs a r' s' → r ≡ r'
+valuef-determined κs a r r' s s' p q = p ∙ sym q
+
+pub signf-determined : (κs : Lfts 0) (a : _) (r r' : ℤ) (s s' : _) → signf.Post κs a r s → signf.Post κs a r' s' → r ≡ r'
+signf-determined κs a r r' s s' p q = p ∙ sym q
+
+pub erff-determined : (κs : Lfts 0) (a : _) (r r' : ℕ) (s s' : _) → erff.Post κs a r s → erff.Post κs a r' s' → r ≡ r'
+erff-determined κs a r r' s s' p q = p ∙ sym q
+
+pub erfcf-determined : (κs : Lfts 0) (a : _) (r r' : ℕ) (s s' : _) → erfcf.Post κs a r s → erfcf.Post κs a r' s' → r ≡ r'
+erfcf-determined κs a r r' s s' p q = p ∙ sym q
 
 -- the number, and every byte of the answer buffer
 same : (o : Out) (part : Out → ℕ) (r r' : ℕ) (a b b' : List ℕ) → Reported o part r a b → Reported o part r' a b' → (r ≡ r') × (b ≡ b')

@@ -2,16 +2,21 @@
 // the whole batch on the buffers that it is given, and gives one of the four numbers that the batch reports. The header is
 // include/raveltrellis.h.
 use lgamma::lgamma_r;
+use lgammaf::lgammaf_r;
 use stream::batch;
 use words::bits::bits_of;
+use words::bits::bits_of_f32;
 use words::bits::of_bits;
+use words::bits::of_bits_f32;
 ghost use mathlib.Core.Path.{_≡_};
-ghost use lib.Ieee.{binary64, ofBits};
+ghost use lib.Ieee.{binary32, binary64, ofBits};
 ghost use lib.ListN.{length};
 ghost use lib.Seq.{sets};
 ghost use Rattle.tgamma.specs.Tgamma.{tgammaS};
 ghost use Rattle.lgamma.specs.Lgamma64.{lgammaS};
 ghost use Rattle.erf.specs.Erf64.{erfS, erfcS};
+ghost use Rattle.lgammaf.specs.Lgammaf.{lgammafS};
+ghost use Rattle.erff.specs.Erff.{erffS, erfcfS};
 ghost use Rattle.stream.specs.Kinds.{onBits, valueOnBits, batchS};
 ghost use Rattle.entries.specs.Post.{Reported};
 
@@ -49,6 +54,35 @@ pub extern "C" fn rvt_erfc(x: u64) -> u64
     ensures { λ r. ⌜ r ≡ onBits binary64 erfcS x ⌝ }
 {
     stream::by_bits::erfc_bits(x)
+}
+
+// The f32 functions, on the 32 bits of an f32.
+#[no_mangle]
+pub extern "C" fn rvt_lgammaf_r_value(x: u32) -> u32
+    ensures { λ r. ⌜ r ≡ valueOnBits binary32 lgammafS x ⌝ }
+{
+    bits_of_f32(lgammaf_r(of_bits_f32(x)).value)
+}
+
+#[no_mangle]
+pub extern "C" fn rvt_lgammaf_r_sign(x: u32) -> i32
+    ensures { λ r. ⌜ r ≡ lgammafS (ofBits binary32 x) .sign ⌝ }
+{
+    lgammaf_r(of_bits_f32(x)).sign
+}
+
+#[no_mangle]
+pub extern "C" fn rvt_erff(x: u32) -> u32
+    ensures { λ r. ⌜ r ≡ onBits binary32 erffS x ⌝ }
+{
+    stream::by_bits::erff_bits(x)
+}
+
+#[no_mangle]
+pub extern "C" fn rvt_erfcf(x: u32) -> u32
+    ensures { λ r. ⌜ r ≡ onBits binary32 erfcfS x ⌝ }
+{
+    stream::by_bits::erfcf_bits(x)
 }
 
 // The stop code.

@@ -21,7 +21,8 @@ row-none (r ∷ rs) k h = rw (ne-eqb k (r .kind) (h .0)) (row-none rs k (h .1))
 
 pub table-light : AllLight table
 unfolding table
-table-light = (λ b. omega arith, (λ b. omega arith, (λ b. omega arith, (λ b. omega arith, tt))))
+table-light =
+    (λ b. omega arith, (λ b. omega arith, (λ b. omega arith, (λ b. omega arith, (λ b. omega arith, (λ b. omega arith, (λ b. omega arith, tt)))))))
 
 -- with room for twice the requests a batch never stops with code 3
 pub enough-room : (s : List ℕ) (room : ℕ) → 2 * length s ≤ room → run table s room .code ≤ 2

@@ -15,6 +15,9 @@ use Rattle.stream.proofs.by_bits.tgamma_bits.Reads as tgamma
 use Rattle.stream.proofs.by_bits.lgamma_r_bits.Reads as lgamma
 use Rattle.stream.proofs.by_bits.erf_bits.Reads as erf
 use Rattle.stream.proofs.by_bits.erfc_bits.Reads as erfc
+use Rattle.stream.proofs.by_bits.lgammaf_r_bits.Reads as lgammaf
+use Rattle.stream.proofs.by_bits.erff_bits.Reads as erff
+use Rattle.stream.proofs.by_bits.erfcf_bits.Reads as erfcf
 
 same-report : (o : Out) (r r' : Report) (p : ℕ) (a b b' : List ℕ) → Did o r p a b → Did o r' p a b' → r ≡ r'
 same-report o r r' p a b b' d d' = λ i. record {
@@ -50,3 +53,12 @@ erf-determined κs a r r' s s' p q = p ∙ sym q
 
 pub erfc-determined : (κs : Lfts 0) (a : _) (r r' : ℕ) (s s' : _) → erfc.Post κs a r s → erfc.Post κs a r' s' → r ≡ r'
 erfc-determined κs a r r' s s' p q = p ∙ sym q
+
+pub lgammaf-determined : (κs : Lfts 0) (a : _) (r r' : SignedBits) (s s' : _) → lgammaf.Post κs a r s → lgammaf.Post κs a r' s' → r ≡ r'
+lgammaf-determined κs a r r' s s' p q = λ i. record { value = (p .0 ∙ sym (q .0)) i; sign = (p .1 ∙ sym (q .1)) i }
+
+pub erff-determined : (κs : Lfts 0) (a : _) (r r' : ℕ) (s s' : _) → erff.Post κs a r s → erff.Post κs a r' s' → r ≡ r'
+erff-determined κs a r r' s s' p q = p ∙ sym q
+
+pub erfcf-determined : (κs : Lfts 0) (a : _) (r r' : ℕ) (s s' : _) → erfcf.Post κs a r s → erfcf.Post κs a r' s' → r ≡ r'
+erfcf-determined κs a r r' s s' p q = p ∙ sym q

@@ -4,12 +4,14 @@ use mathlib.Core.List.{List, [], _∷_}
 use lib.ListN.{length}
 use lib.IntN.{ℤ, pos}
 use lib.Signed.{ltZ}
-use lib.Ieee.{Format, Float, binary64, ofBits, toBits}
+use lib.Ieee.{Format, Float, binary32, binary64, ofBits, toBits}
 use Rattle.words.specs.Pick.{pick}
 use Rattle.tgamma.specs.Tgamma.{tgammaS}
 use Rattle.lgamma.specs.Plan.{Answer}
 use Rattle.lgamma.specs.Lgamma64.{lgammaS}
 use Rattle.erf.specs.Erf64.{erfS, erfcS}
+use Rattle.lgammaf.specs.Lgammaf.{lgammafS}
+use Rattle.erff.specs.Erff.{erffS, erfcfS}
 use Rattle.stream.specs.Run.{Row, Out, run}
 
 -- a function by bits: the argument's in, the value's out
@@ -40,6 +42,9 @@ table =
     ∷ signed 2 8 (valueOnBits binary64 lgammaS) (signOnBits binary64 lgammaS)
     ∷ plain 3 8 (onBits binary64 erfS)
     ∷ plain 4 8 (onBits binary64 erfcS)
+    ∷ signed 17 4 (valueOnBits binary32 lgammafS) (signOnBits binary32 lgammafS)
+    ∷ plain 19 4 (onBits binary32 erffS)
+    ∷ plain 20 4 (onBits binary32 erfcfS)
     ∷ []
 
 -- a batch over requests, with a buffer for the answers

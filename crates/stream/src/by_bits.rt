@@ -1,11 +1,15 @@
 // The functions by bits: the argument's in, the value's out, with one pattern for a NaN.
 use words::bits::bits_of;
+use words::bits::bits_of_f32;
 use words::bits::of_bits;
+use words::bits::of_bits_f32;
 ghost use mathlib.Core.Path.{_≡_};
-ghost use lib.Ieee.{binary64};
+ghost use lib.Ieee.{binary32, binary64};
 ghost use Rattle.tgamma.specs.Tgamma.{tgammaS};
 ghost use Rattle.erf.specs.Erf64.{erfS, erfcS};
 ghost use Rattle.lgamma.specs.Lgamma64.{lgammaS};
+ghost use Rattle.lgammaf.specs.Lgammaf.{lgammafS};
+ghost use Rattle.erff.specs.Erff.{erffS, erfcfS};
 ghost use Rattle.stream.specs.Kinds.{onBits, valueOnBits, signByte, signOnBits};
 
 pub fn tgamma_bits(x: u64) -> u64
@@ -46,4 +50,27 @@ pub fn erfc_bits(x: u64) -> u64
     ensures { λ r. ⌜ r ≡ onBits binary64 erfcS x ⌝ }
 {
     bits_of(erf::erfc(of_bits(x)))
+}
+
+// The f32 functions, on the 32 bits of an f32.
+pub fn lgammaf_r_bits(x: u32) -> SignedBits
+    ensures { λ r. ⌜ (r .value ≡ valueOnBits binary32 lgammafS x) × (r .sign ≡ signOnBits binary32 lgammafS x) ⌝ }
+{
+    let t = lgammaf::lgammaf_r(of_bits_f32(x));
+    SignedBits {
+        value: bits_of_f32(t.value) as u64,
+        sign: sign_byte(t.sign),
+    }
+}
+
+pub fn erff_bits(x: u32) -> u32
+    ensures { λ r. ⌜ r ≡ onBits binary32 erffS x ⌝ }
+{
+    bits_of_f32(erff::erff(of_bits_f32(x)))
+}
+
+pub fn erfcf_bits(x: u32) -> u32
+    ensures { λ r. ⌜ r ≡ onBits binary32 erfcfS x ⌝ }
+{
+    bits_of_f32(erff::erfcf(of_bits_f32(x)))
 }

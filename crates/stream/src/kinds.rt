@@ -3,7 +3,10 @@ use crate::Reply;
 use crate::by_bits::SignedBits;
 use crate::by_bits::erf_bits;
 use crate::by_bits::erfc_bits;
+use crate::by_bits::erfcf_bits;
+use crate::by_bits::erff_bits;
 use crate::by_bits::lgamma_r_bits;
+use crate::by_bits::lgammaf_r_bits;
 use crate::by_bits::tgamma_bits;
 ghost use mathlib.Core.Path.{_≡_};
 ghost use Prim.Native.Nat.{_+_, _≤_, _<_, _^_};
@@ -19,6 +22,9 @@ pub(crate) fn width_of(kind: u8) -> usize
         2 => 8,
         3 => 8,
         4 => 8,
+        17 => 4,
+        19 => 4,
+        20 => 4,
         _ => 0,
     }
 }
@@ -59,6 +65,9 @@ pub(crate) fn reply(kind: u8, bits: u64) -> Reply
         2 => signed_number(130, 8, lgamma_r_bits(bits)),
         3 => one_number(131, 8, erf_bits(bits)),
         4 => one_number(132, 8, erfc_bits(bits)),
+        17 => signed_number(145, 4, lgammaf_r_bits(bits as u32)),
+        19 => one_number(147, 4, erff_bits(bits as u32) as u64),
+        20 => one_number(148, 4, erfcf_bits(bits as u32) as u64),
         _ => Reply {
             head: 0,
             width: 0,

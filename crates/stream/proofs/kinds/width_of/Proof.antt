@@ -25,12 +25,25 @@ unfolding table rowIn
 returns-4 c = (sym (ap (λ (k : ℕ). rowIn table k .width) (c .match .keys4)), omega arith)
 
 returns-5 : tie.Need-returns-5
+unfolding table rowIn
+returns-5 c = (sym (ap (λ (k : ℕ). rowIn table k .width) (c .match .keys5)), omega arith)
+
+returns-6 : tie.Need-returns-6
+unfolding table rowIn
+returns-6 c = (sym (ap (λ (k : ℕ). rowIn table k .width) (c .match .keys6)), omega arith)
+
+returns-7 : tie.Need-returns-7
+unfolding table rowIn
+returns-7 c = (sym (ap (λ (k : ℕ). rowIn table k .width) (c .match .keys7)), omega arith)
+
+returns-8 : tie.Need-returns-8
 unfolding table
-returns-5 c =
+returns-8 c =
     let k = c .before .args .kind in
     let r = c .match .rest in
-    let e : rowIn table k ≡ noRow k = row-none table k (r .0 .0 .0 .1, (r .0 .0 .1, (r .0 .1, (r .1, tt)))) in
+    let e : rowIn table k ≡ noRow k =
+    row-none table k (r .0 .0 .0 .0 .0 .0 .1, (r .0 .0 .0 .0 .0 .1, (r .0 .0 .0 .0 .1, (r .0 .0 .0 .1, (r .0 .0 .1, (r .0 .1, (r .1, tt))))))) in
     (sym (ap (λ (r : Row). r .width) e), omega arith)
 
 pub width-of-spec : {M : Type 1} → statement M
-width-of-spec = tie.close (tie.spec returns returns-2 returns-3 returns-4 returns-5)
+width-of-spec = tie.close (tie.spec returns returns-2 returns-3 returns-4 returns-5 returns-6 returns-7 returns-8)

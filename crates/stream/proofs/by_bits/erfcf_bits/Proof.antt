@@ -1,0 +1,19 @@
+-- `stream::by_bits::erfcf_bits` meets its contract. Assumes nothing.
+use borrow.Author.Needs.{needs}
+use Rattle.stream.proofs.by_bits.erfcf_bits.Statement.{statement}
+use Rattle.stream.proofs.by_bits.erfcf_bits.Tie as tie
+
+of-bits-f32-requires : tie.Need-of-bits-f32-requires
+of-bits-f32-requires c κs = search needs
+
+erfcf-requires : tie.Need-erfcf-requires
+erfcf-requires c κs = search needs
+
+bits-of-f32-requires : tie.Need-bits-of-f32-requires
+bits-of-f32-requires c κs = search needs
+
+returns : tie.Need-returns
+returns c = cc
+
+pub erfcf-bits-spec : {M : Type 1} → statement M
+erfcf-bits-spec = tie.close (tie.spec of-bits-f32-requires erfcf-requires bits-of-f32-requires returns)
