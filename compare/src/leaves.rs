@@ -21,6 +21,14 @@ mod k_cos {
     include!(concat!(env!("LIBM_DIR"), "/src/math/k_cos.rs"));
 }
 
+mod k_sinf {
+    include!(concat!(env!("LIBM_DIR"), "/src/math/k_sinf.rs"));
+}
+
+mod k_cosf {
+    include!(concat!(env!("LIBM_DIR"), "/src/math/k_cosf.rs"));
+}
+
 /// A leaf of the port, as the program `leaves` numbers them.
 pub struct Leaf {
     pub number: u64,
@@ -48,7 +56,7 @@ pub enum Second {
 const fn leaf(number: u64, name: &'static str, width: Width) -> Leaf {
     let second = match number {
         9 | 10 => Second::Word,
-        64 => Second::Exponent,
+        40 | 64 => Second::Exponent,
         67 | 69 => Second::Double,
         71 => Second::Power,
         _ => Second::Nothing,
@@ -61,7 +69,7 @@ const fn leaf(number: u64, name: &'static str, width: Width) -> Leaf {
     }
 }
 
-pub const LEAVES: [Leaf; 37] = [
+pub const LEAVES: [Leaf; 45] = [
     leaf(1, "fabs", Width::Double),
     leaf(2, "floor", Width::Double),
     leaf(3, "whole", Width::Double),
@@ -82,6 +90,12 @@ pub const LEAVES: [Leaf; 37] = [
     leaf(35, "wholef", Width::Single),
     leaf(36, "sign_f32", Width::Single),
     leaf(37, "size_bits", Width::Single),
+    leaf(38, "expf", Width::Single),
+    leaf(39, "logf", Width::Single),
+    leaf(40, "scalbnf", Width::Single),
+    leaf(41, "erff", Width::Single),
+    leaf(42, "erfcf", Width::Single),
+    leaf(43, "lgammaf_r", Width::Single),
     leaf(48, "hornerf of 0", Width::Single),
     leaf(49, "hornerf of 1", Width::Single),
     leaf(50, "hornerf of 2", Width::Single),
@@ -94,6 +108,8 @@ pub const LEAVES: [Leaf; 37] = [
     leaf(69, "k_cos", Width::Double),
     leaf(70, "sqrt", Width::Double),
     leaf(71, "pow", Width::Double),
+    leaf(72, "k_sinf", Width::Double),
+    leaf(73, "k_cosf", Width::Double),
     leaf(80, "erf", Width::Double),
     leaf(81, "erfc", Width::Double),
     leaf(82, "lgamma_r, value", Width::Double),
@@ -195,6 +211,8 @@ fn answer_double(leaf: u64, x: f64, b: u64) -> u64 {
         69 => bits_of(k_cos::k_cos(x, y)),
         70 => bits_of(libm::sqrt(x)),
         71 => bits_of(libm::pow(x, y)),
+        72 => u64::from(bits_of_f32(k_sinf::k_sinf(x))),
+        73 => u64::from(bits_of_f32(k_cosf::k_cosf(x))),
         80 => bits_of(libm::erf(x)),
         81 => bits_of(libm::erfc(x)),
         82 => bits_of(libm::lgamma_r(x).0),
@@ -204,7 +222,7 @@ fn answer_double(leaf: u64, x: f64, b: u64) -> u64 {
     }
 }
 
-fn answer_single(leaf: u64, x: f32) -> u64 {
+fn answer_single(leaf: u64, x: f32, b: u64) -> u64 {
     let bits = bits_of_f32(x);
     let answer = match leaf {
         33 => bits_of_f32(libm::fabsf(x)),
@@ -212,6 +230,15 @@ fn answer_single(leaf: u64, x: f32) -> u64 {
         35 => return whole(f64::from(x)),
         36 => bits >> 31,
         37 => bits & 0x7fff_ffff,
+        38 => bits_of_f32(libm::expf(x)),
+        39 => bits_of_f32(libm::logf(x)),
+        40 => bits_of_f32(libm::scalbnf(x, b as u32 as i32)),
+        41 => bits_of_f32(libm::erff(x)),
+        42 => bits_of_f32(libm::erfcf(x)),
+        43 => {
+            let (value, sign) = libm::lgammaf_r(x);
+            return u64::from(sign as u32) << 32 | u64::from(bits_of_f32(value));
+        }
         48..=51 => bits_of_f32(hornerf(leaf, x)),
         _ => return UNKNOWN,
     };
@@ -221,7 +248,7 @@ fn answer_single(leaf: u64, x: f32) -> u64 {
 /// The Rust's answer of a leaf at the arguments' bits a and b.
 pub fn answer(leaf: u64, a: u64, b: u64) -> u64 {
     match leaf {
-        32..=63 => answer_single(leaf, f32::from_bits(a as u32)),
+        32..=63 => answer_single(leaf, f32::from_bits(a as u32), b),
         _ => answer_double(leaf, f64::from_bits(a), b),
     }
 }

@@ -1,6 +1,7 @@
 //! Compares the port with the Rust, bit for bit: the leaves by the program `leaves`, the request
 //! stream by the program `answers`.
 
+mod exhaustive;
 mod leaves;
 mod patterns;
 mod port;
@@ -23,10 +24,12 @@ use traffic::Streams;
 
 const USAGE: &str = "usage:
   compare leaves SEED COUNT [FILE]   every leaf, at COUNT random patterns beside the systematic ones
-  compare exhaustive-f32 [FILE]      leaves 33 to 37, at all 2^32 patterns
+  compare exhaustive-f32 [FILE]      the f32 leaves and functions, at all 2^32 patterns; a run that was
+                                     broken off goes on where it was
   compare stream SEED COUNT [FILE]   COUNT requests of mixed kinds beside the systematic ones, and
                                      damaged streams
   compare sample SEED STDIN STDOUT   writes a list of requests to leaves, and the Rust's answers
+  compare requests SEED COUNT        writes COUNT requests of mixed kinds
   compare answer                     the Rust in place of the program leaves
   compare answers                    the Rust in place of the program answers
 FILE is a program to ask in place of the port's own.";
@@ -66,6 +69,11 @@ fn run(words: &[&str]) -> io::Result<u8> {
             eprintln!("{} requests", list.len());
             Ok(0)
         }
+        ["requests", seed, count] => {
+            let random = &mut Random::at(number(seed)?, 0);
+            io::stdout().write_all(&Streams::new().random(random, number(count)?))?;
+            Ok(0)
+        }
         ["answer"] => {
             let replies: Vec<_> = input()?
                 .chunks_exact(24)
@@ -101,16 +109,16 @@ fn input() -> io::Result<Vec<u8>> {
     Ok(bytes)
 }
 
-/// Asks a leaf `total` questions, which `question` makes from their places.
-fn compare_leaf(
+/// Asks a leaf `total` questions, which `question` makes from their places, and says each place.
+fn ask_leaf(
     leaf: &Leaf,
     total: u64,
     question: impl Fn(u64) -> (u64, u64) + Sync,
     program: &Program,
     tally: &mut Tally,
+    mut at: impl FnMut(u64),
 ) -> io::Result<()> {
     let number = leaf.number;
-    let mut progress = Progress::new(format!("leaf {number}, {}", leaf.name), total);
     let request = |place| {
         let (a, b) = question(place);
         leaves::request(number, a, b)
@@ -122,9 +130,22 @@ fn compare_leaf(
             let name = leaf.name;
             format!("leaf {number}, {name}: a {a:#x}, b {b:#x}: port {got:#x}, Rust {want:#x}")
         });
-        progress.at(place);
+        at(place);
     };
-    program.ask(total, request, check)?;
+    program.ask(total, request, check)
+}
+
+/// The same, with the progress.
+fn compare_leaf(
+    leaf: &Leaf,
+    total: u64,
+    question: impl Fn(u64) -> (u64, u64) + Sync,
+    program: &Program,
+    tally: &mut Tally,
+) -> io::Result<()> {
+    let what = format!("leaf {}, {}", leaf.number, leaf.name);
+    let mut progress = Progress::new(what, total);
+    ask_leaf(leaf, total, question, program, tally, |p| progress.at(p))?;
     progress.end();
     Ok(())
 }
@@ -163,8 +184,12 @@ fn question(leaf: &Leaf, patterns: &Patterns, seed: u64, place: u64) -> (u64, u6
 
 fn compare_all_singles(program: &Program) -> io::Result<u8> {
     let mut tally = Tally::default();
-    for leaf in LEAVES.iter().filter(|l| (33..=37).contains(&l.number)) {
-        compare_leaf(leaf, 1 << 32, |place| (place, 0), program, &mut tally)?;
+    let mut journal = exhaustive::Journal::open(program)?;
+    for leaf in exhaustive::leaves() {
+        exhaustive::each_block(leaf, &mut journal, &mut tally, |first, tally| {
+            let question = |place| (first + place, 0);
+            ask_leaf(leaf, exhaustive::BLOCK, question, program, tally, |_| ())
+        })?;
     }
     Ok(tally.finish())
 }
@@ -195,9 +220,9 @@ fn compare_streams(seed: u64, count: u64, program: &Program) -> io::Result<u8> {
 /// Compares the answers to a stream record by record, and the end behind them.
 fn compare_stream(requests: &[u8], program: &Program, tally: &mut Tally) -> io::Result<()> {
     let got = program.exchange(requests)?;
-    let want = stream::program(requests, &stream::PORTED);
+    let want = stream::program(requests, &stream::KINDS);
     let (mut read, mut written) = (0, 0);
-    for _ in 0..stream::records(requests, &stream::PORTED) {
+    for _ in 0..stream::records(requests, &stream::KINDS) {
         let request = &requests[read..][..1 + stream::body_length(requests[read]).unwrap()];
         let length = stream::answer_length(request[0]);
         let answer = &want[written..][..length];

@@ -42,17 +42,21 @@ const HIGH_WORDS: [u32; 23] = [
 const LOG_WORDS: [u32; 3] = [0x0010_0000, LOG_REDUCTION, 0x7ff0_0000];
 const LOG_REDUCTION: u32 = 0x3fe6_a09e;
 
-/// The sizes that lgammaf_r.rs and erff.rs test.
-const SINGLE_CUTS: [u32; 18] = [
+/// The sizes that lgammaf_r.rs, erff.rs, expf.rs and logf.rs test.
+const SINGLE_CUTS: [u32; 25] = [
     0x2380_0000,
     0x3180_0000,
     0x3500_0000,
+    0x3900_0000,
     0x3e6d_3308,
     0x3e80_0000,
+    0x3eb1_7218,
+    0x3f35_04f3,
     0x3f3b_4a20,
     0x3f58_0000,
     0x3f66_6666,
     0x3f80_0000,
+    0x3f85_1592,
     0x3f9d_a620,
     0x3fa0_0000,
     0x3fdd_a618,
@@ -61,6 +65,9 @@ const SINGLE_CUTS: [u32; 18] = [
     0x40c0_0000,
     0x4100_0000,
     0x41e0_0000,
+    0x42ae_ac50,
+    0x42b1_7218,
+    0x42cf_f1b5,
     0x5c80_0000,
 ];
 

@@ -40,21 +40,27 @@ impl Random {
         }
     }
 
-    /// An i32 to scale by, its 32 bits: half of them where scalbn changes its course, with both
+    /// An i32 to scale by, its 32 bits: half of them where scalbn or scalbnf changes its course, with both
     /// neighbours, most others where an answer is neither 0 nor infinite.
     pub fn exponent(&mut self) -> u64 {
-        const CUTS: [i32; 8] = [
+        const CUTS: [i32; 14] = [
             1023,
             2046,
             3069,
             -1022,
             -1991,
             -2960,
+            127,
+            254,
+            381,
+            -126,
+            -228,
+            -330,
             i32::MAX - 1,
             i32::MIN + 1,
         ];
         let n = match self.below(8) {
-            0..=3 => CUTS[self.below(8) as usize] - 1 + self.below(3) as i32,
+            0..=3 => CUTS[self.below(14) as usize] - 1 + self.below(3) as i32,
             4..=6 => self.below(6400) as i32 - 3200,
             _ => self.next() as i32,
         };

@@ -43,13 +43,13 @@ pub fn requests(seed: u64) -> Vec<[u8; 24]> {
         21,
         31,
         32,
-        38,
+        44,
         47,
         52,
         63,
-        72,
+        74,
         79,
-        82,
+        85,
         255,
         u64::MAX,
     ] {
@@ -58,11 +58,11 @@ pub fn requests(seed: u64) -> Vec<[u8; 24]> {
     list
 }
 
-/// floor, the whole part, narrowing, exp, log, erf and erfc have cuts of their own; the words of a size
+/// floor, the whole part, narrowing, exp, log and the functions have cuts of their own; the words of a size
 /// are what the functions test; the longest Horner sums are the functions' own.
 fn looks_at_cuts(leaf: &Leaf) -> bool {
     match leaf.width {
-        Width::Double => [2, 3, 4, 8, 65, 66, 80, 81].contains(&leaf.number),
-        Width::Single => [34, 35, 37].contains(&leaf.number),
+        Width::Double => [2, 3, 4, 8, 65, 66, 80, 81, 82, 83, 84].contains(&leaf.number),
+        Width::Single => [34, 35, 37, 38, 39, 41, 42, 43].contains(&leaf.number),
     }
 }

@@ -6,9 +6,6 @@ use crate::leaves::{bits_of, bits_of_f32};
 /// The kinds of the table.
 pub const KINDS: [u8; 7] = [1, 2, 3, 4, 17, 19, 20];
 
-/// Those that the port has.
-pub const PORTED: [u8; 4] = [1, 2, 3, 4];
-
 /// What a batch reports.
 #[derive(Debug, PartialEq)]
 pub struct Report {

@@ -2,9 +2,9 @@
 
 use crate::patterns::{Patterns, Width};
 use crate::random::Random;
-use crate::stream::{body_length, PORTED};
+use crate::stream::{body_length, KINDS};
 
-/// Streams of requests of the kinds that the port has.
+/// Streams of requests of every kind.
 pub struct Streams {
     doubles: Patterns,
     singles: Patterns,
@@ -21,7 +21,7 @@ impl Streams {
     /// Every kind at every systematic pattern of its width.
     pub fn systematic(&self) -> Vec<u8> {
         let mut stream = Vec::new();
-        for kind in PORTED {
+        for kind in KINDS {
             let patterns = match body_length(kind) {
                 Some(8) => &self.doubles,
                 _ => &self.singles,
@@ -37,7 +37,7 @@ impl Streams {
     pub fn random(&self, random: &mut Random, count: u64) -> Vec<u8> {
         let mut stream = Vec::new();
         for _ in 0..count {
-            let kind = PORTED[random.below(PORTED.len() as u64) as usize];
+            let kind = KINDS[random.below(KINDS.len() as u64) as usize];
             let patterns = match body_length(kind) {
                 Some(8) => &self.doubles,
                 _ => &self.singles,
@@ -69,7 +69,7 @@ impl Streams {
 
 fn unknown_kind(random: &mut Random) -> u8 {
     let kind = random.next() as u8;
-    if PORTED.contains(&kind) {
+    if KINDS.contains(&kind) {
         kind + 128
     } else {
         kind

@@ -6,15 +6,18 @@
 //  3 whole          7 sign
 //  4 narrow         8 size_word
 // 16 to 20 horner at a, over no coefficient, the first, the first two and all of erf's PP, and over erf's SA
-// 33 fabsf         36 sign_f32
-// 34 floorf        37 size_bits
-// 35 wholef
+// 33 fabsf         36 sign_f32       39 logf
+// 34 floorf        37 size_bits      40 scalbnf(a, b), b an i32
+// 35 wholef        38 expf
+// 41 erff          43 lgammaf_r: its sign above its value
+// 42 erfcf
 // 48 to 51 hornerf at a, over no coefficient, the first, the first two and all of erff's PP
 // 64 scalbn(a, b), b an i32
 // 65 exp
 // 66 log            68 k_sin(a, 0, 0)
 // 67 k_sin(a, b, 1) 69 k_cos(a, b)
-// 70 sqrt          71 pow(a, b)
+// 70 sqrt          72 k_sinf
+// 71 pow(a, b)     73 k_cosf
 // 80 erf           81 erfc
 // 82 lgamma_r's value  83 lgamma_r's sign
 // 84 tgamma
@@ -22,19 +25,27 @@
 // An argument or an answer of 32 bits is the low half of its u64, and an i32 is its two's complement.
 use erf::erf;
 use erf::erfc;
+use erff::erfcf;
+use erff::erff;
 use exp::exp;
+use exp::single::expf;
 use lgamma::lgamma_r;
+use lgammaf::lgammaf_r;
 use libc::STDIN_FILENO;
 use libc::STDOUT_FILENO;
 use log::log;
+use log::single::logf;
 use poly::horner;
 use poly::hornerf;
 use pow::pow;
 use scalbn::scalbn;
+use scalbn::single::scalbnf;
 use sqrt::sqrt;
 use tgamma::tgamma;
 use trig::k_cos;
 use trig::k_sin;
+use trig::single::k_cosf;
+use trig::single::k_sinf;
 use words::bits::bits_of;
 use words::bits::bits_of_f32;
 use words::bits::get_high_word;
@@ -159,6 +170,30 @@ fn number_leaf_f32(leaf: u64, x: f32) -> u64 {
     }
 }
 
+fn power_leaf_f32(leaf: u64, x: f32, n: i32) -> u64 {
+    match leaf {
+        38 => bits_of_f32(expf(x)) as u64,
+        39 => bits_of_f32(logf(x)) as u64,
+        40 => bits_of_f32(scalbnf(x, n)) as u64,
+        _ => UNKNOWN,
+    }
+}
+
+// Its sign's 32 bits above the value's.
+fn sign_and_value(x: f32) -> u64 {
+    let t = lgammaf_r(x);
+    low_half(pattern(t.sign)) as u64 * 0x1_0000_0000 + bits_of_f32(t.value) as u64
+}
+
+fn function_leaf_f32(leaf: u64, x: f32) -> u64 {
+    match leaf {
+        41 => bits_of_f32(erff(x)) as u64,
+        42 => bits_of_f32(erfcf(x)) as u64,
+        43 => sign_and_value(x),
+        _ => UNKNOWN,
+    }
+}
+
 fn horner_leaf_f32(leaf: u64, x: f32) -> u64 {
     match leaf {
         48 => bits_of_f32(hornerf(&NONE_F32, x)) as u64,
@@ -185,6 +220,8 @@ fn function_leaf(leaf: u64, x: f64, y: f64) -> u64 {
         69 => bits_of(k_cos(x, y)),
         70 => bits_of(sqrt(x)),
         71 => bits_of(pow(x, y)),
+        72 => bits_of_f32(k_sinf(x)) as u64,
+        73 => bits_of_f32(k_cosf(x)) as u64,
         _ => UNKNOWN,
     }
 }
@@ -210,6 +247,20 @@ fn low_half(x: u64) -> u32 {
     (x % 0x1_0000_0000) as u32
 }
 
+// The answer of a leaf of f32.
+fn answer_f32(leaf: u64, x: f32, n: i32) -> u64 {
+    if leaf < 38 {
+        return number_leaf_f32(leaf, x);
+    }
+    if leaf < 41 {
+        return power_leaf_f32(leaf, x, n);
+    }
+    if leaf < 48 {
+        return function_leaf_f32(leaf, x);
+    }
+    horner_leaf_f32(leaf, x)
+}
+
 // The answer of one leaf.
 fn answer(leaf: u64, a: u64, b: u64) -> u64 {
     if leaf < 5 {
@@ -221,11 +272,8 @@ fn answer(leaf: u64, a: u64, b: u64) -> u64 {
     if leaf < 32 {
         return horner_leaf(leaf, of_bits(a));
     }
-    if leaf < 48 {
-        return number_leaf_f32(leaf, of_bits_f32(low_half(a)));
-    }
     if leaf < 64 {
-        return horner_leaf_f32(leaf, of_bits_f32(low_half(a)));
+        return answer_f32(leaf, of_bits_f32(low_half(a)), of_pattern(low_half(b)));
     }
     if leaf < 66 {
         return power_leaf(leaf, of_bits(a), of_pattern(low_half(b)));
