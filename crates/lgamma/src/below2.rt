@@ -156,7 +156,7 @@ fn added(s: Segment) -> f64
     }
 }
 
-pub fn below2(ix: u32, x: f64) -> f64
+pub(crate) fn below2(ix: u32, x: f64) -> f64
     ensures { λ r. ⌜ r ≡ below2S lgamma64 ix x ⌝ }
 {
     if ix <= UP_TO_0_9 {

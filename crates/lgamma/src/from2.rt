@@ -62,7 +62,7 @@ fn product(y: f64, i: i32) -> f64
     z * (y + 2.0)
 }
 
-pub fn below8(x: f64) -> f64
+pub(crate) fn below8(x: f64) -> f64
     ensures { λ r. ⌜ r ≡ below8S lgamma64 x ⌝ }
 {
     let i = whole(x);
@@ -77,7 +77,7 @@ pub fn below8(x: f64) -> f64
     r
 }
 
-pub fn stirling(x: f64) -> f64
+pub(crate) fn stirling(x: f64) -> f64
     ensures { λ r. ⌜ r ≡ stirlingS lgamma64 x ⌝ }
 {
     let t = log(x);

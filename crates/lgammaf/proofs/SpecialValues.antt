@@ -10,8 +10,9 @@ use Rattle.log.proofs.SpecialValues.{log-zero}
 use Rattle.lgamma.specs.Plan.{sizeS}
 use Rattle.lgamma.specs.Plan as Plan
 use Rattle.lgamma.proofs.SpecialValues.{plus, minus}
-use Rattle.lgammaf.specs.Lgammaf.{lgammafS}
-use Rattle.lgammaf.proofs.SignLaw.{at-pole}
+use Rattle.lgamma.proofs.PlanSigns.{at-pole}
+use Rattle.lgammaf.specs.Lgammaf.{lgamma32, lgammafS}
+use Rattle.lgammaf.proofs.SignLaw.{regular}
 
 pub lgammaf-nan : lgammafS nan ≡ plus nan
 unfolding Plan.lgammaS toBits mul
@@ -40,8 +41,8 @@ lgammaf-minus-zero = ap (λ (v : Float). minus (neg v)) (log-zero binary32 false
 
 pub lgammaf-minus-one : lgammafS (bits 0xBF800000) ≡ plus (inf false)
 unfolding fits ofBits
-lgammaf-minus-one = at-pole 1 (pos 0) tt (lit< tt) refl
+lgammaf-minus-one = at-pole lgamma32 regular 1 (pos 0) tt (lit< tt) refl
 
 pub lgammaf-minus-two : lgammafS (bits 0xC0000000) ≡ plus (inf false)
 unfolding fits ofBits
-lgammaf-minus-two = at-pole 1 (pos 1) tt (lit< tt) refl
+lgammaf-minus-two = at-pole lgamma32 regular 1 (pos 1) tt (lit< tt) refl

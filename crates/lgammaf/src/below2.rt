@@ -156,7 +156,7 @@ fn added(s: Segment) -> f32
     }
 }
 
-pub fn below2(ix: u32, x: f32) -> f32
+pub(crate) fn below2(ix: u32, x: f32) -> f32
     ensures { λ r. ⌜ r ≡ below2S lgamma32 ix x ⌝ }
 {
     if ix <= UP_TO_0_9 {

@@ -62,7 +62,7 @@ fn product(y: f32, i: i32) -> f32
     z * (y + 2.0)
 }
 
-pub fn below8(x: f32) -> f32
+pub(crate) fn below8(x: f32) -> f32
     ensures { λ r. ⌜ r ≡ below8S lgamma32 x ⌝ }
 {
     let i = wholef(x);
@@ -77,7 +77,7 @@ pub fn below8(x: f32) -> f32
     r
 }
 
-pub fn stirling(x: f32) -> f32
+pub(crate) fn stirling(x: f32) -> f32
     ensures { λ r. ⌜ r ≡ stirlingS lgamma32 x ⌝ }
 {
     let t = logf(x);

@@ -38,7 +38,7 @@ pub record Point : Type 0 where
 abbrev point : (ℕ → ℕ) → ℕ → ℕ → Point
 point f x y = record { function = f; argument = x; answer = y }
 
--- +0, -0 and -184.5, ..: the argument, and what the function gives there
+-- in each line the function, the argument and the answer
 unfoldable pub table : List Point
 table =
     -- tgamma: of +0 +inf, of -0 -inf, of 1 1, of 23 1124000727777607680000, of -1 NaN, of -184.5 -0, of -185.5 +0, of 184 +inf

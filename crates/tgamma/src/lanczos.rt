@@ -62,7 +62,7 @@ fn up(cs: &[f64], x: f64) -> f64
 }
 
 /* S(x) rational function for positive x */
-pub fn s(x: f64) -> f64
+pub(crate) fn s(x: f64) -> f64
     ensures { λ r. ⌜ r ≡ sS x ⌝ }
 {
     /* to avoid overflow handle large x differently */
