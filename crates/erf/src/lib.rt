@@ -7,9 +7,9 @@ ghost use Rattle.erf.specs.Plan.{erfc1S, ratioS, shortS, erfc2S, smallS}
 ghost use Rattle.erf.specs.Erf64.{erf64, erfS, erfcS};
 use exp::exp;
 use poly::horner;
+use words::bits::clear_low_word;
 use words::bits::sign;
 use words::bits::size_word;
-use words::bits::with_set_low_word;
 use words::fabs::fabs;
 
 const ERX: f64 = 8.45062911510467529297e-01; /* 0x3FEB0AC1, 0x60000000 */
@@ -124,7 +124,7 @@ fn ratio(ix: u32, s: f64) -> f64
 fn short(x: f64) -> f64
     ensures { λ r. ⌜ r ≡ shortS erf64 x ⌝ }
 {
-    with_set_low_word(x, 0)
+    clear_low_word(x)
 }
 
 fn erfc2(ix: u32, x: f64) -> f64
@@ -136,7 +136,8 @@ fn erfc2(ix: u32, x: f64) -> f64
     let a = fabs(x);
     let s = 1.0 / (a * a);
     let z = short(a);
-    exp(-z * z - 0.5625) * exp((z - a) * (z + a) + ratio(ix, s)) / a
+    let q = ratio(ix, s);
+    exp(-z * z - 0.5625) * exp((z - a) * (z + a) + q) / a
 }
 
 // y below 0.84375.
@@ -157,6 +158,9 @@ fn signed(sign: u32, y: f64) -> f64
 pub fn erf(x: f64) -> f64
     ensures { λ r. ⌜ r ≡ erfS x ⌝ }
 {
+    if x != x {
+        return x;
+    }
     let ix = size_word(x);
     let sign = sign(x);
     if ix >= 0x7ff00000 {
@@ -178,6 +182,9 @@ pub fn erf(x: f64) -> f64
 pub fn erfc(x: f64) -> f64
     ensures { λ r. ⌜ r ≡ erfcS x ⌝ }
 {
+    if x != x {
+        return x;
+    }
     let ix = size_word(x);
     let sign = sign(x);
     if ix >= 0x7ff00000 {

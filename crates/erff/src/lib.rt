@@ -137,7 +137,8 @@ fn erfc2(ix: u32, x: f32) -> f32
     let a = fabsf(x);
     let s = 1.0 / (a * a);
     let z = short(a);
-    expf(-z * z - 0.5625) * expf((z - a) * (z + a) + ratio(ix, s)) / a
+    let q = ratio(ix, s);
+    expf(-z * z - 0.5625) * expf((z - a) * (z + a) + q) / a
 }
 
 // y below 0.84375.
@@ -158,6 +159,9 @@ fn signed(sign: u32, y: f32) -> f32
 pub fn erff(x: f32) -> f32
     ensures { λ r. ⌜ r ≡ erffS x ⌝ }
 {
+    if x != x {
+        return x;
+    }
     let ix = size_bits(x);
     let sign = sign_f32(x);
     if ix >= 0x7f800000 {
@@ -179,6 +183,9 @@ pub fn erff(x: f32) -> f32
 pub fn erfcf(x: f32) -> f32
     ensures { λ r. ⌜ r ≡ erfcfS x ⌝ }
 {
+    if x != x {
+        return x;
+    }
     let ix = size_bits(x);
     let sign = sign_f32(x);
     if ix >= 0x7f800000 {

@@ -101,6 +101,9 @@ fn special(x: f64, hx: u32, sign: u32) -> f64
 pub fn exp(x: f64) -> f64
     ensures { λ r. ⌜ r ≡ expS x ⌝ }
 {
+    if x != x {
+        return x;
+    }
     let hx = size_word(x);
     if hx >= 0x4086232b {
         return special(x, hx, sign(x));

@@ -1,5 +1,6 @@
 // expf.
 ghost use mathlib.Core.Path.{_≡_};
+ghost use lib.Ieee.{binary32, ofInt};
 ghost use Rattle.exp.specs.Plan.{primaryS, multipleS, reducedS, plainS};
 ghost use Rattle.exp.specs.Expf.{exp32, specialfS, expfS};
 use poly::hornerf;
@@ -47,10 +48,23 @@ fn multiple(x: f32, hx: u32, sign: u32) -> i32
     -1
 }
 
+// The f32 nearest to k, which is k where it is small.
+fn float_of(k: i32) -> f32
+    ensures { λ r. ⌜ r ≡ ofInt binary32 k ⌝ }
+{
+    if k > 16777215 {
+        return std::num::nearest_i32_to_f32(k);
+    }
+    if k < -16777215 {
+        return std::num::nearest_i32_to_f32(k);
+    }
+    k as f32
+}
+
 fn reduced(x: f32, k: i32) -> f32
     ensures { λ r. ⌜ r ≡ reducedS exp32 x k ⌝ }
 {
-    let kf = std::num::nearest_i32_to_f32(k);
+    let kf = float_of(k);
     let hi = x - kf * LN2_HI;
     let lo = kf * LN2_LO;
     primary(hi - lo, hi, lo, k)
@@ -91,6 +105,9 @@ fn special(x: f32, hx: u32, sign: u32) -> f32
 pub fn expf(x: f32) -> f32
     ensures { λ r. ⌜ r ≡ expfS x ⌝ }
 {
+    if x != x {
+        return x;
+    }
     let hx = size_bits(x);
     if hx >= 0x42aeac50 {
         return special(x, hx, sign_f32(x));

@@ -4,12 +4,14 @@ use mathlib.Core.Path.{_≡_, _∙_}
 use mathlib.Core.Bool.{Bool, true, false}
 use lib.IntN.{ℤ, pos, negsuc}
 use lib.Signed.{leZ}
+use lib.Dec.{leb}
 use lib.Ieee as Ieee
 use lib.Ieee.{Float, neg, ofInt}
 use mir.Syntax.{w32}
 use mir.Val.{SFits, toZ, ofZ}
 use mir.ValLaws.{toZ-ofZ}
 use borrow.Author.Tests.{le-leb, lt-leb, lt-ltb, le-ltb, eq-eqb, ne-eqb}
+use Rattle.words.specs.Pick.{pick}
 use Rattle.words.specs.Bits.{signS}
 use Rattle.words.specs.Whole.{wholeS}
 use Rattle.poly.specs.Horner.{hornerS}
@@ -59,13 +61,9 @@ module _ (p : Plan) where
 
   -- ---- below2, where segment_at gives s and added gives a
   module _ (ix : ℕ) (x : Float) {a : Float} {s : Segment} (es : s ≡ segmentS p ix x) (ea : a ≡ addedS p s) where
-    pub to-0·9 : {l : Float} → l ≡ p .log x → ix ≤ p .to0·9 → neg l ⊕ a ≡ below2S p ix x
+    pub below2-by : {l : Float} → l ≡ pick (leb ix (p .to0·9)) (neg (p .log x)) (p .zero) → l ⊕ a ≡ below2S p ix x
     unfolding below2S
-    to-0·9 el h = simp (le-leb _ _ h) (rw (ea, es, el))
-
-    pub above-0·9 : p .to0·9 < ix → p .zero ⊕ a ≡ below2S p ix x
-    unfolding below2S
-    above-0·9 h = simp (lt-leb _ _ h) (rw (ea, es))
+    below2-by el = rw (el, ea, es)
 
   -- ---- below8, where whole gives i, and n is i as a float. P and Q are the values of the polynomials S and R
   module _ (x : Float) {n P Q : Float} {i : ℤ} (F : SFits w32 i) (ei : i ≡ wholeS x) (en : n ≡ ofInt (p .format) (toZ w32 (ofZ w32 i)))

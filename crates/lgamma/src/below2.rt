@@ -1,5 +1,8 @@
 // lgamma_r of x < 2.0, by three formulas.
 ghost use mathlib.Core.Path.{_≡_};
+ghost use lib.Dec.{leb};
+ghost use lib.Ieee.{neg};
+ghost use Rattle.words.specs.Pick.{pick};
 ghost use Rattle.lgamma.specs.Plan.{segmentS, zeroS, oneS, twoS, addedS, below2S};
 ghost use Rattle.lgamma.specs.Lgamma64.{lgamma64};
 ghost use Rattle.lgamma.specs.Segment.{segmentOf};
@@ -156,12 +159,19 @@ fn added(s: Segment) -> f64
     }
 }
 
-pub(crate) fn below2(ix: u32, x: f64) -> f64
-    ensures { λ r. ⌜ r ≡ below2S lgamma64 ix x ⌝ }
+// Where r starts.
+fn start(ix: u32, x: f64) -> f64
+    ensures { λ r. ⌜ r ≡ pick (leb ix (lgamma64 .to0·9)) (neg (lgamma64 .log x)) (lgamma64 .zero) ⌝ }
 {
     if ix <= UP_TO_0_9 {
         /* lgamma(x) = lgamma(x+1)-log(x) */
-        return -log(x) + added(segment_at(ix, x));
+        return -log(x);
     }
-    0.0 + added(segment_at(ix, x))
+    0.0
+}
+
+pub(crate) fn below2(ix: u32, x: f64) -> f64
+    ensures { λ r. ⌜ r ≡ below2S lgamma64 ix x ⌝ }
+{
+    start(ix, x) + added(segment_at(ix, x))
 }

@@ -72,6 +72,9 @@ fn reflected(ix: u32, x: f64, t: f64) -> LgammaR
 pub fn lgamma_r(x: f64) -> LgammaR
     ensures { λ r. ⌜ (r .value ≡ lgammaS x .value) × (r .sign ≡ lgammaS x .sign) ⌝ }
 {
+    if x != x {
+        return answer(x, 1);
+    }
     let sign = sign(x);
     let ix = size_word(x);
     if ix >= 0x7ff00000 {

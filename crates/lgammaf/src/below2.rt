@@ -1,5 +1,8 @@
 // lgammaf_r of x < 2.0, by three formulas.
 ghost use mathlib.Core.Path.{_≡_};
+ghost use lib.Dec.{leb};
+ghost use lib.Ieee.{neg};
+ghost use Rattle.words.specs.Pick.{pick};
 ghost use Rattle.lgamma.specs.Plan.{segmentS, zeroS, oneS, twoS, addedS, below2S};
 ghost use Rattle.lgammaf.specs.Lgammaf.{lgamma32};
 ghost use Rattle.lgammaf.specs.Segment.{segmentOf};
@@ -156,12 +159,19 @@ fn added(s: Segment) -> f32
     }
 }
 
-pub(crate) fn below2(ix: u32, x: f32) -> f32
-    ensures { λ r. ⌜ r ≡ below2S lgamma32 ix x ⌝ }
+// Where r starts.
+fn start(ix: u32, x: f32) -> f32
+    ensures { λ r. ⌜ r ≡ pick (leb ix (lgamma32 .to0·9)) (neg (lgamma32 .log x)) (lgamma32 .zero) ⌝ }
 {
     if ix <= UP_TO_0_9 {
         /* lgamma(x) = lgamma(x+1)-log(x) */
-        return -logf(x) + added(segment_at(ix, x));
+        return -logf(x);
     }
-    0.0 + added(segment_at(ix, x))
+    0.0
+}
+
+pub(crate) fn below2(ix: u32, x: f32) -> f32
+    ensures { λ r. ⌜ r ≡ below2S lgamma32 ix x ⌝ }
+{
+    start(ix, x) + added(segment_at(ix, x))
 }

@@ -71,6 +71,9 @@ fn reflected(ix: u32, x: f32, t: f32) -> LgammafR
 pub fn lgammaf_r(x: f32) -> LgammafR
     ensures { λ r. ⌜ (r .value ≡ lgammafS x .value) × (r .sign ≡ lgammafS x .sign) ⌝ }
 {
+    if x != x {
+        return answer(x, 1);
+    }
     let sign = sign_f32(x);
     let ix = size_bits(x);
     if ix >= 0x7f800000 {

@@ -5,10 +5,10 @@ ghost use Rattle.pow_exp.specs.Exp2.{word, fractionS, scaledS, exp2S, la
 use poly::horner;
 use pow_log::Parts;
 use scalbn::scalbn;
+use words::bits::clear_low_word;
 use words::bits::get_high_word;
 use words::bits::get_low_word;
 use words::bits::with_set_high_word;
-use words::bits::with_set_low_word;
 
 pub const HUGE: f64 = 1.0e300;
 
@@ -34,7 +34,7 @@ const OVT: f64 = 8.0085662595372944372e-017; /* -(1024-log2(ovfl+.5ulp)) */
 fn fraction(p_h: f64, p_l: f64) -> f64
     ensures { λ r. ⌜ r ≡ fractionS «p_h» «p_l» ⌝ }
 {
-    let c = with_set_low_word(p_l + p_h, 0);
+    let c = clear_low_word(p_l + p_h);
     let u = c * LG2_H;
     let v = (p_l - (c - p_h)) * LG2 + c * LG2_L;
     let z = u + v;
@@ -132,7 +132,7 @@ fn bounded(s: f64, p_h: f64, p_l: f64, z: f64, j: u32, i: u32) -> f64
 pub fn product(s: f64, y: f64, t: Parts) -> f64
     ensures { λ r. ⌜ r ≡ productS s y t ⌝ }
 {
-    let y1 = with_set_low_word(y, 0);
+    let y1 = clear_low_word(y);
     let p_l = (y - y1) * t.t1 + y * t.t2;
     let p_h = y1 * t.t1;
     let z = p_l + p_h;

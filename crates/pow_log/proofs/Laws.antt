@@ -9,7 +9,7 @@ use Rattle.words.specs.F64.{_⊕_, _⊖_, _⊗_, _⊘_, bits}
 use Rattle.words.specs.Bits.{withHighWordS, withLowWordS}
 use Rattle.poly.specs.Horner.{hornerS}
 use Rattle.pow_log.specs.declared.Parts.{Parts}
-use Rattle.pow_log.specs.Log2.{L, CP, CP·H, CP·L, DP·H, DP·L, seriesS, intervalS, normalS}
+use Rattle.pow_log.specs.Log2.{L, CP, CP·H, CP·L, BP, DP·H, DP·L, seriesS, intervalS, normalS}
 use Rattle.pow_log.proofs.Integers.{through, one-more}
 
 pub series :
@@ -35,20 +35,12 @@ unfolding seriesS
 series ax bp t·h dp·h dp·l t s·h hn r·h p·h t1 e1 e2 e3 e4 e5 = rw (e5, e4, e3, e2, e1)
 
 module _ (ax : Float) (ix : ℕ) (n : ℤ) (a t·h : Float) (r : Parts) (is-a : a ≡ withHighWordS ax ix) where
-  pub interval-one :
-      t·h ≡ withHighWordS (bits 0) (ix / 2 + 0x20080000) →
-      r ≡ seriesS a (bits 0x3FF0000000000000) t·h (bits 0) (bits 0) (ofInt binary64 n) → r ≡ intervalS ax ix 0 n
+  pub interval-by : (k : ℕ)
+      → t·h ≡ withHighWordS (bits 0) (ix / 2 + 0x20080000 + k * 0x40000)
+      → r ≡ seriesS a (BP k) t·h (DP·H k) (DP·L k) (ofInt binary64 n) → r ≡ intervalS ax ix k n
   unfolding intervalS
-  interval-one is-t q =
-      let w : ix / 2 + 0x20080000 ≡ ix / 2 + 0x20000000 + 0x00080000 + 0 * 2 ^ 18 = omega arith in
-      rw (q, is-a, is-t, w)
-
-  pub interval-three-halves :
-      t·h ≡ withHighWordS (bits 0) (ix / 2 + 0x200C0000) →
-      r ≡ seriesS a (bits 0x3FF8000000000000) t·h (DP·H 1) (DP·L 1) (ofInt binary64 n) → r ≡ intervalS ax ix 1 n
-  unfolding intervalS
-  interval-three-halves is-t q =
-      let w : ix / 2 + 0x200C0000 ≡ ix / 2 + 0x20000000 + 0x00080000 + 1 * 2 ^ 18 = omega arith in
+  interval-by k is-t q =
+      let w : ix / 2 + 0x20080000 + k * 0x40000 ≡ ix / 2 + 0x20000000 + 0x00080000 + k * 2 ^ 18 = omega arith in
       rw (q, is-a, is-t, w)
 
 module _ (ax : Float) (ix bias : ℕ) (n : ℤ) (r : Parts) where

@@ -1,12 +1,15 @@
 // log2 of |x| in two parts: the first half of pow.rs.
 ghost use mathlib.Core.Path.{_≡_};
-ghost use Prim.Native.Nat.{_≤_};
+ghost use Prim.Native.Nat.{ℕ, _≤_};
+ghost use lib.Dec.{eqb};
 ghost use lib.IntN.{pos, negℤ, _-ℤ_};
+ghost use lib.Ieee.{Float};
+ghost use Rattle.words.specs.Pick.{pick};
 ghost use Rattle.pow_log.specs.Log2.{nearOneS, seriesS, intervalS, normalS, log2S};
 use poly::horner;
+use words::bits::clear_low_word;
 use words::bits::get_high_word;
 use words::bits::with_set_high_word;
-use words::bits::with_set_low_word;
 
 // log2(|x|) is t1 + t2.
 pub struct Parts {
@@ -49,7 +52,7 @@ pub fn near_one(ax: f64) -> Parts
     let w = (t * t) * (0.5 - t * (0.3333333333333333333333 - t * 0.25));
     let u = IVLN2_H * t;
     let v = t * IVLN2_L - w * IVLN2;
-    let t1 = with_set_low_word(u + v, 0);
+    let t1 = clear_low_word(u + v);
     Parts {
         t1: t1,
         t2: v - (t1 - u),
@@ -62,24 +65,24 @@ fn series(ax: f64, bp: f64, t_h: f64, dp_h: f64, dp_l: f64, t: f64) -> Parts
     let u = ax - bp;
     let v = 1.0 / (ax + bp);
     let ss = u * v;
-    let s_h = with_set_low_word(ss, 0);
+    let s_h = clear_low_word(ss);
     let t_l = ax - (t_h - bp);
     let s_l = v * ((u - s_h * t_h) - s_h * t_l);
     // log(ax)
     let s2 = ss * ss;
     let r = s2 * s2 * horner(&L, s2) + s_l * (s_h + ss);
     let q2 = s_h * s_h;
-    let r_h = with_set_low_word(3.0 + q2 + r, 0);
+    let r_h = clear_low_word(3.0 + q2 + r);
     let r_l = r - ((r_h - 3.0) - q2);
     // uu + vv = ss*(1+...)
     let uu = s_h * r_h;
     let vv = s_l * r_h + r_l * ss;
     // 2/(3log2)*(ss+...)
-    let p_h = with_set_low_word(uu + vv, 0);
+    let p_h = clear_low_word(uu + vv);
     let p_l = vv - (p_h - uu);
     let z_h = CP_H * p_h;
     let z_l = CP_L * p_h + p_l * CP + dp_l;
-    let t1 = with_set_low_word(((z_h + z_l) + dp_h) + t, 0);
+    let t1 = clear_low_word(((z_h + z_l) + dp_h) + t);
     Parts {
         t1: t1,
         t2: z_l - (((t1 - t) - dp_h) - z_h),
@@ -94,20 +97,60 @@ fn exponent(e: u32, bias: u32) -> i32
     e as i32 - bias as i32
 }
 
-// ax is near 1, between sqrt(3)/2 and sqrt(3/2).
-fn interval_one(ax: f64, ix: u32, n: i32) -> Parts
-    ensures { λ r. ⌜ r ≡ intervalS ax ix 0 n ⌝ }
+// a where k is 0, else b.
+fn at(k: u32, a: f64, b: f64) -> f64
+    ensures { λ r. ⌜ r ≡ pick (eqb k 0) a b ⌝ }
 {
-    let t_h = with_set_high_word(0.0, ix / 2 + 0x2008_0000);
-    series(with_set_high_word(ax, ix), 1.0, t_h, 0.0, 0.0, n as f64)
+    if k == 0 { a } else { b }
 }
 
-// ax is near 1.5, between sqrt(3/2) and sqrt(3).
-fn interval_three_halves(ax: f64, ix: u32, n: i32) -> Parts
-    ensures { λ r. ⌜ r ≡ intervalS ax ix 1 n ⌝ }
+// ax is near 1, between sqrt(3)/2 and sqrt(3/2), for a k of 0; for one of 1 near 1.5, between sqrt(3/2) and sqrt(3).
+fn interval(ax: f64, ix: u32, k: u32, n: i32) -> Parts
+    requires { ⌜ k ≤ 1 ⌝ }
+    ensures { λ r. ⌜ r ≡ intervalS ax ix k n ⌝ }
 {
-    let t_h = with_set_high_word(0.0, ix / 2 + 0x200c_0000);
-    series(with_set_high_word(ax, ix), 1.5, t_h, DP_H, DP_L, n as f64)
+    let t_h = with_set_high_word(0.0, ix / 2 + 0x2008_0000 + k * 0x4_0000);
+    series(
+        with_set_high_word(ax, ix),
+        at(k, 1.0, 1.5),
+        t_h,
+        at(k, 0.0, DP_H),
+        at(k, 0.0, DP_L),
+        n as f64,
+    )
+}
+
+// Which interval, with which high word, and the exponent's field.
+pub struct Place {
+    pub ix: u32,
+    pub k: u32,
+    pub e: u32,
+}
+
+fn find(ix: u32) -> Place
+    ensures { λ r. ⌜ ((ax : Float) (bias : ℕ) → intervalS ax (r .ix) (r .k) (pos (r .e) -ℤ pos bias) ≡ normalS ax ix (pos 0x3FF -ℤ pos bias)) × (r .k ≤ 1) × (r .e ≤ 0x1000) ⌝ }
+{
+    let e = ix / 0x10_0000;
+    let j = ix % 0x10_0000;
+    if j <= 0x3988e {
+        return Place {
+            ix: j + 0x3ff0_0000,
+            k: 0,
+            e,
+        };
+    }
+    if j < 0xbb67a {
+        return Place {
+            ix: j + 0x3ff0_0000,
+            k: 1,
+            e,
+        };
+    }
+    Place {
+        ix: j + 0x3fe0_0000,
+        k: 0,
+        e: e + 1,
+    }
 }
 
 // ax is counted with 2^(1023 - bias).
@@ -115,15 +158,8 @@ fn normal(ax: f64, ix: u32, bias: u32) -> Parts
     requires { ⌜ (0x3FF ≤ bias) × (bias ≤ 0x434) ⌝ }
     ensures { λ r. ⌜ r ≡ normalS ax ix (pos 0x3FF -ℤ pos bias) ⌝ }
 {
-    let e = ix / 0x10_0000;
-    let j = ix % 0x10_0000;
-    if j <= 0x3988e {
-        return interval_one(ax, j + 0x3ff0_0000, exponent(e, bias));
-    }
-    if j < 0xbb67a {
-        return interval_three_halves(ax, j + 0x3ff0_0000, exponent(e, bias));
-    }
-    interval_one(ax, j + 0x3fe0_0000, exponent(e + 1, bias))
+    let p = find(ix);
+    interval(ax, p.ix, p.k, exponent(p.e, bias))
 }
 
 pub fn log2(ax: f64, ix: u32) -> Parts

@@ -81,7 +81,7 @@ not-finite binary32 s x t e = subst (λ (z : ℕ). ofFields binary32 s z t ≡ f
 not-finite binary64 s x t e = subst (λ (z : ℕ). ofFields binary64 s z t ≡ floorS binary64 (ofFields binary64 s z t)) (sym e) (ends binary64 s (eqb t 0))
 
 -- the value of a pattern with the field x + 1, in units
-value-at : (f : Format) (b x : ℕ) → fieldOf f b ≡ suc x → suc x < ones f → HasValue (ofBits f b) (leb (top f) b) ((hid f + b % hid f) * 2 ^ x) (2 ^ low f)
+pub value-at : (f : Format) (b x : ℕ) → fieldOf f b ≡ suc x → suc x < ones f → HasValue (ofBits f b) (leb (top f) b) ((hid f + b % hid f) * 2 ^ x) (2 ^ low f)
 value-at f b x e h =
     let r : b % top f ≡ suc x * hid f + b % hid f = rest-is f b ∙ ap (λ (z : ℕ). z * hid f + b % hid f) e in
     let t = mod-lt b (hid-pos f) in
@@ -132,10 +132,10 @@ module _ (f : Format) (b : ℕ) (tiny : fieldOf f b < emax f) where
   rest-lt : b % top f < one f
   rest-lt = subst (λ (n : ℕ). n < one f) (sym (rest-is f b)) (digits-lt tiny (mod-lt b (hid-pos f)))
 
-  size-lt : bitVal f (b % top f) < 2 ^ low f
+  pub size-lt : bitVal f (b % top f) < 2 ^ low f
   size-lt = subst (λ (n : ℕ). bitVal f (b % top f) < n) (one-value f) (val-lt f (b % top f) (one f) rest-lt)
 
-  value : HasValue (ofBits f b) (leb (top f) b) (bitVal f (b % top f)) (2 ^ low f)
+  pub value : HasValue (ofBits f b) (leb (top f) b) (bitVal f (b % top f)) (2 ^ low f)
   value = pattern-value f b (lt-trans rest-lt (mul-lt-mul-of-pos-right (less f) (hid-pos f)))
     where
       less : (f : Format) → emax f < ones f

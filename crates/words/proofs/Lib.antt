@@ -7,8 +7,8 @@ pub mod FloorLaws
 pub mod FloorCode
 -- NarrowLaws: the f32 pattern nearest to an f64, from the pattern of the f64
 pub mod NarrowLaws
--- WholeLaws: the whole part from std's truncation
-pub mod WholeLaws
+-- WholeBits: the whole part from the fields of the bits
+pub mod WholeBits
 -- CutLaws: cuts on the size of a value as cuts on its bits and its size word, either way
 pub mod CutLaws
 -- WholeBounds: the whole part of a value between two whole numbers

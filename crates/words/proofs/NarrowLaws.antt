@@ -5,7 +5,7 @@ use mathlib.Core.Path.{_≡_, refl, sym, ap, _∙_, subst}
 use mathlib.Core.Logic.{inl, inr}
 use mathlib.Core.Bool.{Bool, true, false, not, cond}
 use Prim.Native.Nat.{ℕ, zero, suc, _+_, _-_, _*_, _/_, _%_, _^_, _<_, _≤_, zero-le, compare, Ordering, Ordering·lt, Ordering·eq, Ordering·gt}
-use native.Mathlib.Nat.{le-refl, le-trans, le-of-eq, eq-or-lt-of-le, lt-of-le-of-lt, lt-of-lt-of-le, mod-lt, mod-eq-of-lt, mul-one, mul-comm, mul-assoc, mul-right-comm, mul-le-mul-right, mul-lt-mul-of-pos-right, mul-pos, mul-add-div-right, mul-add-mod-self-right, div-lt-iff-lt-mul, le-div-iff-mul-le, pow-succ', div-eq-of-lt, add-sub-of-le, add-comm, one-mul}
+use native.Mathlib.Nat.{le-refl, le-trans, le-of-eq, eq-or-lt-of-le, eq-zero-or-pos, lt-of-le-of-lt, lt-of-lt-of-le, mod-lt, mod-eq-of-lt, mul-one, mul-comm, mul-assoc, mul-right-comm, mul-le-mul-right, mul-lt-mul-of-pos-right, mul-pos, mul-add-div-right, mul-add-mod-self-right, div-lt-iff-lt-mul, le-div-iff-mul-le, pow-succ', div-eq-of-lt, add-sub-of-le, add-comm, one-mul}
 use native.Mathlib.Numerals.{add-one}
 use native.Mathlib.Omega.{arith}
 use lib.Arith.{lt-of-le-ne, le-zero}
@@ -70,6 +70,15 @@ to-even d u (suc v) e p h k = closest-by d u Ordering·eq (tie (2 ^ v) (e ∙ po
   where
     tie : (H : ℕ) → u ≡ 2 * H → d % u * 2 ≡ u
     tie H e = omega arith
+
+-- the same with no test, at 2 ^ 29
+pub at-29 : (d : ℕ) → (d + 0xfffffff + d / 2 ^ 29 % 2) / 2 ^ 29 ≡ closest d (2 ^ 29)
+at-29 d = go (d % 2 ^ 29 * 2) refl (compare (d % 2 ^ 29 * 2) (2 ^ 29)) (compared (d % 2 ^ 29 * 2) (2 ^ 29))
+  where
+    go : (t : ℕ) → t ≡ d % 2 ^ 29 * 2 → (o : Ordering) → Is o t (2 ^ 29) → (d + 0xfffffff + d / 2 ^ 29 % 2) / 2 ^ 29 ≡ nearest (d / 2 ^ 29) o
+    go t e Ordering·lt h = omega arith
+    go t e Ordering·eq h = omega arith
+    go t e Ordering·gt h = omega arith
 
 -- the quotient leaves room for one more
 pub quotient-lt : (d u w : ℕ) → u ≡ 2 ^ w → 0 < w → d < 2 ^ 64 → d / u < 2 ^ 63
@@ -342,3 +351,18 @@ narrowed-minus b n h k r =
     ∙ ap neg (r .0)
     ∙ sym (narrow-neg (ofBits binary64 t))
     ∙ ap narrowS (sym (bits-neg binary64 t (mod-lt b (lit< tt))) ∙ ap (ofBits binary64) e)
+
+-- either sign: b / top is the sign bit
+pub narrowed-either : (b n : ℕ) → b < 2 * top binary64 → Narrowed (b % top binary64) n
+    → ofBits binary32 (n + b / top binary64 * top binary32) ≡ narrowS (ofBits binary64 b)
+narrowed-either b n k r =
+    elim (eq-zero-or-pos (b / top binary64)) [
+      | inl h ↦ ap (ofBits binary32) (plus h) ∙ narrowed-plus b n (omega arith) r
+      | inr h ↦ ap (ofBits binary32) (minus h) ∙ narrowed-minus b n (omega arith) k r
+    ]
+  where
+    plus : b / top binary64 ≡ 0 → n + b / top binary64 * top binary32 ≡ n
+    plus h = omega arith
+
+    minus : 0 < b / top binary64 → n + b / top binary64 * top binary32 ≡ n + top binary32
+    minus h = omega arith

@@ -24,6 +24,14 @@ fn nearest(d: u64, w: u64) -> u64
     q + q % 2
 }
 
+// The same at 2^29, with no branch.
+fn nearest29(d: u64) -> u64
+    requires { ⌜ d < 2 ^ 63 ⌝ }
+    ensures { λ r. ⌜ r ≡ closest d (2 ^ 29) ⌝ }
+{
+    (d + 0xfff_ffff + d / 0x2000_0000 % 2) / 0x2000_0000
+}
+
 // The f32 pattern, without its sign, for an f64's, without its sign, that is no NaN's.
 fn narrowed(b: u64) -> u64
     requires { ⌜ b ≤ 0x7ff0000000000000 ⌝ }
@@ -35,7 +43,7 @@ fn narrowed(b: u64) -> u64
     }
     if b >= 0x3810_0000_0000_0000 {
         // 2^-126 and more: the exponent's field falls by 896, and 29 digits go
-        return nearest(b - 0x3800_0000_0000_0000, 29);
+        return nearest29(b - 0x3800_0000_0000_0000);
     }
     let e = b / 0x10_0000_0000_0000;
     if e < 873 {
@@ -55,8 +63,5 @@ pub fn narrow(x: f64) -> f32
     }
     let b = bits_of(x);
     let n = narrowed(b % 0x8000_0000_0000_0000);
-    if b < 0x8000_0000_0000_0000 {
-        return of_bits_f32(n as u32);
-    }
-    of_bits_f32(n as u32 + 0x8000_0000)
+    of_bits_f32((n + b / 0x8000_0000_0000_0000 * 0x8000_0000) as u32)
 }

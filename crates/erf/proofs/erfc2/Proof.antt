@@ -18,11 +18,11 @@ fabs-requires c κs = search needs
 short-requires : tie.Need-short-requires
 short-requires c κs = search needs
 
-exp-requires : tie.Need-exp-requires
-exp-requires c κs = search needs
-
 ratio-requires : tie.Need-ratio-requires
 ratio-requires c κs = search needs
+
+exp-requires : tie.Need-exp-requires
+exp-requires c κs = search needs
 
 exp-requires-2 : tie.Need-exp-requires-2
 exp-requires-2 c κs = search needs
@@ -32,7 +32,7 @@ returns-2 c =
     let short = c .before .before .before in
     let fabs = short .before in
     code.erfc2-far erf64 _ (fabs .before .if1 .left) (fabs .fabs .ensures) (short .short .ensures)
-    (c .before .before .exp .ensures) (c .before .ratio .ensures) (c .exp2 .ensures)
+    (c .before .exp .ensures) (c .before .before .ratio .ensures) (c .exp2 .ensures)
 
 pub erfc2-spec : {M : Type 1} → statement M
 erfc2-spec =
@@ -42,7 +42,7 @@ erfc2-spec =
     returns
     fabs-requires
     short-requires
-    exp-requires
     ratio-requires
+    exp-requires
     exp-requires-2
     returns-2)

@@ -5,12 +5,12 @@ use borrow.Author.Needs.{needs}
 use Rattle.erf.proofs.short.Statement.{statement}
 use Rattle.erf.proofs.short.Tie as tie
 
-with-set-low-word-requires : tie.Need-with-set-low-word-requires
-with-set-low-word-requires c κs = search needs
+clear-low-word-requires : tie.Need-clear-low-word-requires
+clear-low-word-requires c κs = search needs
 
 returns : tie.Need-returns
 unfolding shortS
-returns c = simp (add-zero) at (c .with-set-low-word .ensures)
+returns c = simp (add-zero) at (c .clear-low-word .ensures)
 
 pub short-spec : {M : Type 1} → statement M
-short-spec = tie.close (tie.spec with-set-low-word-requires returns)
+short-spec = tie.close (tie.spec clear-low-word-requires returns)

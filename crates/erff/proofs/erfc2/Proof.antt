@@ -18,11 +18,11 @@ fabsf-requires c κs = search needs
 short-requires : tie.Need-short-requires
 short-requires c κs = search needs
 
-expf-requires : tie.Need-expf-requires
-expf-requires c κs = search needs
-
 ratio-requires : tie.Need-ratio-requires
 ratio-requires c κs = search needs
+
+expf-requires : tie.Need-expf-requires
+expf-requires c κs = search needs
 
 expf-requires-2 : tie.Need-expf-requires-2
 expf-requires-2 c κs = search needs
@@ -32,7 +32,7 @@ returns-2 c =
     let short = c .before .before .before in
     let fabs = short .before in
     code.erfc2-far erf32 _ (fabs .before .if1 .left) (fabs .fabsf .ensures) (short .short .ensures)
-    (c .before .before .expf .ensures) (c .before .ratio .ensures) (c .expf2 .ensures)
+    (c .before .expf .ensures) (c .before .before .ratio .ensures) (c .expf2 .ensures)
 
 pub erfc2-spec : {M : Type 1} → statement M
 erfc2-spec =
@@ -42,7 +42,7 @@ erfc2-spec =
     returns
     fabsf-requires
     short-requires
-    expf-requires
     ratio-requires
+    expf-requires
     expf-requires-2
     returns-2)

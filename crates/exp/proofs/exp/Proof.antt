@@ -1,9 +1,17 @@
 -- `exp::exp` meets its contract. Assumes nothing.
+use mathlib.Core.Path.{refl}
+use Rattle.words.proofs.PatternLaws.{is-nan}
+use lib.Ieee.{ne, toBits}
+use Rattle.exp.specs.Exp.{specialS}
 use borrow.Author.Tests.{le-leb, lt-leb}
 use Rattle.exp.specs.Exp.{expS}
 use borrow.Author.Needs.{needs}
 use Rattle.exp.proofs.exp.Statement.{statement}
 use Rattle.exp.proofs.exp.Tie as tie
+
+returns : tie.Need-returns
+unfolding expS specialS ne toBits
+returns c = rw (is-nan (c .before .args .x) (c .if1 .taken)) refl
 
 size-word-requires : tie.Need-size-word-requires
 size-word-requires c κs = search needs
@@ -14,9 +22,9 @@ sign-requires c κs = search needs
 special-requires : tie.Need-special-requires
 special-requires c κs = search needs
 
-returns : tie.Need-returns
+returns-2 : tie.Need-returns-2
 unfolding expS
-returns c = simp (le-leb _ _ (rw (c .before .before .before .size-word .ensures) at (c .before .before .if1 .taken))) (cc)
+returns-2 c = simp (le-leb _ _ (rw (c .before .before .before .size-word .ensures) at (c .before .before .if2 .taken))) (cc)
 
 sign-requires-2 : tie.Need-sign-requires-2
 sign-requires-2 c κs = search needs
@@ -24,18 +32,19 @@ sign-requires-2 c κs = search needs
 plain-requires : tie.Need-plain-requires
 plain-requires c κs = search needs
 
-returns-2 : tie.Need-returns-2
+returns-3 : tie.Need-returns-3
 unfolding expS
-returns-2 c = simp (lt-leb _ _ (rw (c .before .before .before .size-word .ensures) at (c .before .before .if1 .left))) (cc)
+returns-3 c = simp (lt-leb _ _ (rw (c .before .before .before .size-word .ensures) at (c .before .before .if2 .left))) (cc)
 
 pub exp-spec : {M : Type 1} → statement M
 exp-spec =
     tie.close
     (tie.spec
+    returns
     size-word-requires
     sign-requires
     special-requires
-    returns
+    returns-2
     sign-requires-2
     plain-requires
-    returns-2)
+    returns-3)

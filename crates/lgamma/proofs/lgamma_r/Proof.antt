@@ -1,9 +1,32 @@
 -- `lgamma::lgamma_r` meets its contract. Assumes nothing.
+use mathlib.Core.Path.{_≡_, refl, _∙_}
+use lib.IntN.{pos}
+use lib.Ieee.{Float, nan, mul, toBits}
+use Rattle.words.proofs.PatternLaws.{is-nan}
+use Rattle.lgamma.specs.Plan as Plan
 use borrow.Author.Needs.{needs}
 use Rattle.lgamma.specs.Lgamma64.{lgamma64}
 use Rattle.lgamma.proofs.LgammaCode as code
 use Rattle.lgamma.proofs.lgamma_r.Statement.{statement}
 use Rattle.lgamma.proofs.lgamma_r.Tie as tie
+
+answer-requires : tie.Need-answer-requires
+answer-requires c κs = search needs
+
+-- of a NaN the value is the NaN, and the sign is plus
+nan-value : (x : Float) → x ≡ nan → x ≡ Plan.lgammaS lgamma64 x .value
+unfolding Plan.lgammaS mul toBits
+nan-value x e = rw e refl
+
+nan-sign : (x : Float) → x ≡ nan → pos 1 ≡ Plan.lgammaS lgamma64 x .sign
+unfolding Plan.lgammaS toBits
+nan-sign x e = rw e refl
+
+returns : tie.Need-returns
+returns c =
+    let x = c .before .before .args .x in
+    let e = is-nan x (c .before .if1 .taken) in
+    (c .answer .ensures .0 ∙ nan-value x e, c .answer .ensures .1 ∙ nan-sign x e)
 
 sign-requires : tie.Need-sign-requires
 sign-requires c κs = search needs
@@ -11,29 +34,16 @@ sign-requires c κs = search needs
 size-word-requires : tie.Need-size-word-requires
 size-word-requires c κs = search needs
 
-answer-requires : tie.Need-answer-requires
-answer-requires c κs = search needs
-
-returns : tie.Need-returns
-returns c =
-    let e = c .before .before in
-    code.not-finite lgamma64 _ (e .size-word .ensures) (e .before .sign .ensures) (c .before .if1 .taken) (c .answer .ensures)
-
-log-requires : tie.Need-log-requires
-log-requires c κs = search needs
-
 answer-requires-2 : tie.Need-answer-requires-2
 answer-requires-2 c κs = search needs
 
 returns-2 : tie.Need-returns-2
 returns-2 c =
-    let t = c .before .before in
-    let e = t .before .before in
-    code.tiny-plus lgamma64 _ (e .before .size-word .ensures) (e .before .before .sign .ensures) (e .if1 .left) (t .before .if2 .taken) (t .if3 .taken)
-    (c .before .log .ensures) (c .answer2 .ensures)
+    let e = c .before .before in
+    code.not-finite lgamma64 _ (e .size-word .ensures) (e .before .sign .ensures) (c .before .if2 .taken) (c .answer2 .ensures)
 
-log-requires-2 : tie.Need-log-requires-2
-log-requires-2 c κs = search needs
+log-requires : tie.Need-log-requires
+log-requires c κs = search needs
 
 answer-requires-3 : tie.Need-answer-requires-3
 answer-requires-3 c κs = search needs
@@ -42,11 +52,11 @@ returns-3 : tie.Need-returns-3
 returns-3 c =
     let t = c .before .before in
     let e = t .before .before in
-    code.tiny-minus lgamma64 _ (e .before .size-word .ensures) (e .before .before .sign .ensures) (e .if1 .left) (t .before .if2 .taken) (t .if3 .left)
-    (c .before .log2 .ensures) (c .answer3 .ensures)
+    code.tiny-plus lgamma64 _ (e .before .size-word .ensures) (e .before .before .sign .ensures) (e .if2 .left) (t .before .if3 .taken) (t .if4 .taken)
+    (c .before .log .ensures) (c .answer3 .ensures)
 
-size-requires : tie.Need-size-requires
-size-requires c κs = search needs
+log-requires-2 : tie.Need-log-requires-2
+log-requires-2 c κs = search needs
 
 answer-requires-4 : tie.Need-answer-requires-4
 answer-requires-4 c κs = search needs
@@ -55,8 +65,21 @@ returns-4 : tie.Need-returns-4
 returns-4 c =
     let t = c .before .before in
     let e = t .before .before in
-    code.plus lgamma64 _ (e .before .size-word .ensures) (e .before .before .sign .ensures) (e .if1 .left) (t .before .if2 .left) (t .if4 .taken)
-    (c .before .size .ensures) (c .answer4 .ensures)
+    code.tiny-minus lgamma64 _ (e .before .size-word .ensures) (e .before .before .sign .ensures) (e .if2 .left) (t .before .if3 .taken) (t .if4 .left)
+    (c .before .log2 .ensures) (c .answer4 .ensures)
+
+size-requires : tie.Need-size-requires
+size-requires c κs = search needs
+
+answer-requires-5 : tie.Need-answer-requires-5
+answer-requires-5 c κs = search needs
+
+returns-5 : tie.Need-returns-5
+returns-5 c =
+    let t = c .before .before in
+    let e = t .before .before in
+    code.plus lgamma64 _ (e .before .size-word .ensures) (e .before .before .sign .ensures) (e .if2 .left) (t .before .if3 .left) (t .if5 .taken)
+    (c .before .size .ensures) (c .answer5 .ensures)
 
 sinpi-requires : tie.Need-sinpi-requires
 sinpi-requires c κs = search needs
@@ -64,30 +87,32 @@ sinpi-requires c κs = search needs
 reflected-requires : tie.Need-reflected-requires
 reflected-requires c κs = search needs
 
-returns-5 : tie.Need-returns-5
-returns-5 c =
+returns-6 : tie.Need-returns-6
+returns-6 c =
     let t = c .before .before in
     let e = t .before .before in
-    code.minus lgamma64 _ (e .before .size-word .ensures) (e .before .before .sign .ensures) (e .if1 .left) (t .before .if2 .left) (t .if4 .left)
+    code.minus lgamma64 _ (e .before .size-word .ensures) (e .before .before .sign .ensures) (e .if2 .left) (t .before .if3 .left) (t .if5 .left)
     (c .before .sinpi .ensures) (c .reflected .ensures)
 
 pub lgamma-r-spec : {M : Type 1} → statement M
 lgamma-r-spec =
     tie.close
     (tie.spec
-    sign-requires
-    size-word-requires
     answer-requires
     returns
-    log-requires
+    sign-requires
+    size-word-requires
     answer-requires-2
     returns-2
-    log-requires-2
+    log-requires
     answer-requires-3
     returns-3
-    size-requires
+    log-requires-2
     answer-requires-4
     returns-4
+    size-requires
+    answer-requires-5
+    returns-5
     sinpi-requires
     reflected-requires
-    returns-5)
+    returns-6)

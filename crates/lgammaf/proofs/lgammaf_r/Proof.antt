@@ -1,9 +1,32 @@
 -- `lgammaf::lgammaf_r` meets its contract. Assumes nothing.
+use mathlib.Core.Path.{_≡_, refl, _∙_}
+use lib.IntN.{pos}
+use lib.Ieee.{Float, nan, mul, toBits}
+use Rattle.words.proofs.PatternLaws.{is-nan}
+use Rattle.lgamma.specs.Plan as Plan
 use borrow.Author.Needs.{needs}
 use Rattle.lgamma.proofs.LgammaCode as code
 use Rattle.lgammaf.specs.Lgammaf.{lgamma32}
 use Rattle.lgammaf.proofs.lgammaf_r.Statement.{statement}
 use Rattle.lgammaf.proofs.lgammaf_r.Tie as tie
+
+answer-requires : tie.Need-answer-requires
+answer-requires c κs = search needs
+
+-- of a NaN the value is the NaN, and the sign is plus
+nan-value : (x : Float) → x ≡ nan → x ≡ Plan.lgammaS lgamma32 x .value
+unfolding Plan.lgammaS mul toBits
+nan-value x e = rw e refl
+
+nan-sign : (x : Float) → x ≡ nan → pos 1 ≡ Plan.lgammaS lgamma32 x .sign
+unfolding Plan.lgammaS toBits
+nan-sign x e = rw e refl
+
+returns : tie.Need-returns
+returns c =
+    let x = c .before .before .args .x in
+    let e = is-nan x (c .before .if1 .taken) in
+    (c .answer .ensures .0 ∙ nan-value x e, c .answer .ensures .1 ∙ nan-sign x e)
 
 sign-f32-requires : tie.Need-sign-f32-requires
 sign-f32-requires c κs = search needs
@@ -11,29 +34,16 @@ sign-f32-requires c κs = search needs
 size-bits-requires : tie.Need-size-bits-requires
 size-bits-requires c κs = search needs
 
-answer-requires : tie.Need-answer-requires
-answer-requires c κs = search needs
-
-returns : tie.Need-returns
-returns c =
-    let e = c .before .before in
-    code.not-finite lgamma32 _ (e .size-bits .ensures) (e .before .sign-f32 .ensures) (c .before .if1 .taken) (c .answer .ensures)
-
-logf-requires : tie.Need-logf-requires
-logf-requires c κs = search needs
-
 answer-requires-2 : tie.Need-answer-requires-2
 answer-requires-2 c κs = search needs
 
 returns-2 : tie.Need-returns-2
 returns-2 c =
-    let t = c .before .before in
-    let e = t .before .before in
-    code.tiny-plus lgamma32 _ (e .before .size-bits .ensures) (e .before .before .sign-f32 .ensures) (e .if1 .left) (t .before .if2 .taken) (t .if3 .taken)
-    (c .before .logf .ensures) (c .answer2 .ensures)
+    let e = c .before .before in
+    code.not-finite lgamma32 _ (e .size-bits .ensures) (e .before .sign-f32 .ensures) (c .before .if2 .taken) (c .answer2 .ensures)
 
-logf-requires-2 : tie.Need-logf-requires-2
-logf-requires-2 c κs = search needs
+logf-requires : tie.Need-logf-requires
+logf-requires c κs = search needs
 
 answer-requires-3 : tie.Need-answer-requires-3
 answer-requires-3 c κs = search needs
@@ -42,11 +52,11 @@ returns-3 : tie.Need-returns-3
 returns-3 c =
     let t = c .before .before in
     let e = t .before .before in
-    code.tiny-minus lgamma32 _ (e .before .size-bits .ensures) (e .before .before .sign-f32 .ensures) (e .if1 .left) (t .before .if2 .taken) (t .if3 .left)
-    (c .before .logf2 .ensures) (c .answer3 .ensures)
+    code.tiny-plus lgamma32 _ (e .before .size-bits .ensures) (e .before .before .sign-f32 .ensures) (e .if2 .left) (t .before .if3 .taken) (t .if4 .taken)
+    (c .before .logf .ensures) (c .answer3 .ensures)
 
-size-requires : tie.Need-size-requires
-size-requires c κs = search needs
+logf-requires-2 : tie.Need-logf-requires-2
+logf-requires-2 c κs = search needs
 
 answer-requires-4 : tie.Need-answer-requires-4
 answer-requires-4 c κs = search needs
@@ -55,8 +65,21 @@ returns-4 : tie.Need-returns-4
 returns-4 c =
     let t = c .before .before in
     let e = t .before .before in
-    code.plus lgamma32 _ (e .before .size-bits .ensures) (e .before .before .sign-f32 .ensures) (e .if1 .left) (t .before .if2 .left) (t .if4 .taken)
-    (c .before .size .ensures) (c .answer4 .ensures)
+    code.tiny-minus lgamma32 _ (e .before .size-bits .ensures) (e .before .before .sign-f32 .ensures) (e .if2 .left) (t .before .if3 .taken) (t .if4 .left)
+    (c .before .logf2 .ensures) (c .answer4 .ensures)
+
+size-requires : tie.Need-size-requires
+size-requires c κs = search needs
+
+answer-requires-5 : tie.Need-answer-requires-5
+answer-requires-5 c κs = search needs
+
+returns-5 : tie.Need-returns-5
+returns-5 c =
+    let t = c .before .before in
+    let e = t .before .before in
+    code.plus lgamma32 _ (e .before .size-bits .ensures) (e .before .before .sign-f32 .ensures) (e .if2 .left) (t .before .if3 .left) (t .if5 .taken)
+    (c .before .size .ensures) (c .answer5 .ensures)
 
 sinpif-requires : tie.Need-sinpif-requires
 sinpif-requires c κs = search needs
@@ -64,30 +87,32 @@ sinpif-requires c κs = search needs
 reflected-requires : tie.Need-reflected-requires
 reflected-requires c κs = search needs
 
-returns-5 : tie.Need-returns-5
-returns-5 c =
+returns-6 : tie.Need-returns-6
+returns-6 c =
     let t = c .before .before in
     let e = t .before .before in
-    code.minus lgamma32 _ (e .before .size-bits .ensures) (e .before .before .sign-f32 .ensures) (e .if1 .left) (t .before .if2 .left) (t .if4 .left)
+    code.minus lgamma32 _ (e .before .size-bits .ensures) (e .before .before .sign-f32 .ensures) (e .if2 .left) (t .before .if3 .left) (t .if5 .left)
     (c .before .sinpif .ensures) (c .reflected .ensures)
 
 pub lgammaf-r-spec : {M : Type 1} → statement M
 lgammaf-r-spec =
     tie.close
     (tie.spec
-    sign-f32-requires
-    size-bits-requires
     answer-requires
     returns
-    logf-requires
+    sign-f32-requires
+    size-bits-requires
     answer-requires-2
     returns-2
-    logf-requires-2
+    logf-requires
     answer-requires-3
     returns-3
-    size-requires
+    logf-requires-2
     answer-requires-4
     returns-4
+    size-requires
+    answer-requires-5
+    returns-5
     sinpif-requires
     reflected-requires
-    returns-5)
+    returns-6)

@@ -4,8 +4,8 @@ use borrow.Author.Needs.{needs}
 use Rattle.pow_exp.proofs.fraction.Statement.{statement}
 use Rattle.pow_exp.proofs.fraction.Tie as tie
 
-with-set-low-word-requires : tie.Need-with-set-low-word-requires
-with-set-low-word-requires c κs = search needs
+clear-low-word-requires : tie.Need-clear-low-word-requires
+clear-low-word-requires c κs = search needs
 
 slice-aggregate-horner : tie.Need-slice-aggregate-horner
 slice-aggregate-horner c = search needs
@@ -19,4 +19,4 @@ returns c = cc
 
 pub fraction-spec : {M : Type 1} → statement M
 fraction-spec =
-    tie.close (tie.spec with-set-low-word-requires slice-aggregate-horner horner-requires returns)
+    tie.close (tie.spec clear-low-word-requires slice-aggregate-horner horner-requires returns)

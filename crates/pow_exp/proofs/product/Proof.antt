@@ -4,8 +4,8 @@ use borrow.Author.Needs.{needs}
 use Rattle.pow_exp.proofs.product.Statement.{statement}
 use Rattle.pow_exp.proofs.product.Tie as tie
 
-with-set-low-word-requires : tie.Need-with-set-low-word-requires
-with-set-low-word-requires c κs = search needs
+clear-low-word-requires : tie.Need-clear-low-word-requires
+clear-low-word-requires c κs = search needs
 
 get-high-word-requires : tie.Need-get-high-word-requires
 get-high-word-requires c κs = search needs
@@ -24,7 +24,7 @@ pub product-spec : {M : Type 1} → statement M
 product-spec =
     tie.close
     (tie.spec
-    with-set-low-word-requires
+    clear-low-word-requires
     get-high-word-requires
     get-low-word-requires
     bounded-requires

@@ -1,9 +1,17 @@
 -- `exp::single::expf` meets its contract. Assumes nothing.
+use mathlib.Core.Path.{refl}
+use Rattle.words.proofs.PatternLaws.{is-nan}
+use lib.Ieee.{toBits}
+use Rattle.exp.specs.Expf.{specialfS}
 use borrow.Author.Tests.{le-leb, lt-leb}
 use Rattle.exp.specs.Expf.{expfS}
 use borrow.Author.Needs.{needs}
 use Rattle.exp.proofs.single.expf.Statement.{statement}
 use Rattle.exp.proofs.single.expf.Tie as tie
+
+returns : tie.Need-returns
+unfolding expfS specialfS toBits
+returns c = rw (is-nan (c .before .args .x) (c .if1 .taken)) refl
 
 size-bits-requires : tie.Need-size-bits-requires
 size-bits-requires c κs = search needs
@@ -14,9 +22,9 @@ sign-f32-requires c κs = search needs
 special-requires : tie.Need-special-requires
 special-requires c κs = search needs
 
-returns : tie.Need-returns
+returns-2 : tie.Need-returns-2
 unfolding expfS
-returns c = simp (le-leb _ _ (rw (c .before .before .before .size-bits .ensures) at (c .before .before .if1 .taken))) (cc)
+returns-2 c = simp (le-leb _ _ (rw (c .before .before .before .size-bits .ensures) at (c .before .before .if2 .taken))) (cc)
 
 sign-f32-requires-2 : tie.Need-sign-f32-requires-2
 sign-f32-requires-2 c κs = search needs
@@ -24,18 +32,19 @@ sign-f32-requires-2 c κs = search needs
 plain-requires : tie.Need-plain-requires
 plain-requires c κs = search needs
 
-returns-2 : tie.Need-returns-2
+returns-3 : tie.Need-returns-3
 unfolding expfS
-returns-2 c = simp (lt-leb _ _ (rw (c .before .before .before .size-bits .ensures) at (c .before .before .if1 .left))) (cc)
+returns-3 c = simp (lt-leb _ _ (rw (c .before .before .before .size-bits .ensures) at (c .before .before .if2 .left))) (cc)
 
 pub expf-spec : {M : Type 1} → statement M
 expf-spec =
     tie.close
     (tie.spec
+    returns
     size-bits-requires
     sign-f32-requires
     special-requires
-    returns
+    returns-2
     sign-f32-requires-2
     plain-requires
-    returns-2)
+    returns-3)

@@ -5,8 +5,8 @@ use Rattle.exp.proofs.ExpCode as code
 use Rattle.exp.proofs.single.reduced.Statement.{statement}
 use Rattle.exp.proofs.single.reduced.Tie as tie
 
-nearest-i32-to-f32-requires : tie.Need-nearest-i32-to-f32-requires
-nearest-i32-to-f32-requires c κs = search needs
+float-of-requires : tie.Need-float-of-requires
+float-of-requires c κs = search needs
 
 primary-requires : tie.Need-primary-requires
 primary-requires c κs = search needs
@@ -17,4 +17,4 @@ returns c =
     cc (code.reduced-by exp32 (s .args .x) (s .args .k) (s .fits .k))
 
 pub reduced-spec : {M : Type 1} → statement M
-reduced-spec = tie.close (tie.spec nearest-i32-to-f32-requires primary-requires returns)
+reduced-spec = tie.close (tie.spec float-of-requires primary-requires returns)

@@ -1,74 +1,29 @@
--- `stream::bytes::put` meets its contract: what is left to write from here gives what is to be written in all. Assumes nothing.
-use mathlib.Core.Path.{_≡_, refl, sym, _∙_, ap}
-use Prim.Native.Nat.{ℕ, _+_, _-_, _/_, _%_}
-use borrow.Author.Needs.{needs}
+-- `stream::bytes::put` meets its contract: either way is `write` at the same width. Assumes nothing.
+use mathlib.Core.Path.{_≡_}
 use native.Mathlib.Omega.{arith}
-use native.Mathlib.Numerals.{add-one}
-use lib.ListN.{length, set, length-set}
-use lib.Seq.{sets}
-use Rattle.stream.specs.Bytes.{digits}
-use Rattle.stream.proofs.ByteLaws.{digits-more}
+use borrow.Author.Needs.{needs}
 use Rattle.stream.proofs.bytes.put.Statement.{statement}
 use Rattle.stream.proofs.bytes.put.Tie as tie
 
-abbrev Inv-loop : tie.InvT-loop
-Inv-loop s₀ at width x i₀ left₀ y₀ s i left y =
-    (i + left ≡ at + width) × ((length s ≡ length s₀) × (sets s i (digits left y) ≡ sets s₀ at (digits width x)))
+write-requires : tie.Need-write-requires
+write-requires c κs = search needs
 
-abbrev μ-loop : tie.MeasureT-loop
-μ-loop s₀ at width x i₀ left₀ y₀ s i left y = left
+same-length : tie.Need-same-length
+same-length c = search needs
 
-loop-holds : tie.Need-loop-holds Inv-loop μ-loop
-loop-holds c = (refl, (refl, refl))
-
-cast-s : tie.Need-cast-s Inv-loop μ-loop
-cast-s c = search needs
-
-slice-write-s : tie.Need-slice-write-s Inv-loop μ-loop
-slice-write-s c = search needs
-
-add-i : tie.Need-add-i Inv-loop μ-loop
-add-i c = search needs
-
-sub-left : tie.Need-sub-left Inv-loop μ-loop
-sub-left c = search needs
-
-loop-less : tie.Need-loop-less Inv-loop μ-loop
-loop-less c = search needs
-
-loop-again : tie.Need-loop-again Inv-loop μ-loop
-loop-again c =
-    let l = c .before .loop in (
-      omega arith,
-      (
-        simp length-set (l .inv .1 .0),
-        ap (λ (k : ℕ). sets (set (l .s) (l .i) (l .y % 256)) k (digits (l .left - 1) (l .y / 256))) (add-one _)
-            ∙ ap (sets (l .s) (l .i)) (sym (digits-more (l .left) (l .y) (omega arith))) ∙ l .inv .1 .1,
-      ),
-    )
-
-same-length : tie.Need-same-length Inv-loop μ-loop
-same-length c = c .before .loop .inv .1 .0
-
-returns : tie.Need-returns Inv-loop μ-loop
-unfolding digits
+returns : tie.Need-returns
 returns c =
-    let l = c .before .loop in
-    let z : l .left ≡ 0 = omega arith in
-    (omega arith, ap (λ (k : ℕ). sets (l .s) (l .i) (digits k (l .y))) (sym z) ∙ l .inv .1 .1)
+    let e : c .before .before .before .before .before .before .args .width ≡ 8 = omega arith in
+    rw e (c .before .before .write .ensures)
+
+write-requires-2 : tie.Need-write-requires-2
+write-requires-2 c κs = search needs
+
+same-length-2 : tie.Need-same-length-2
+same-length-2 c = search needs
+
+returns-2 : tie.Need-returns-2
+returns-2 c = search needs
 
 pub put-spec : {M : Type 1} → statement M
-put-spec =
-    tie.close
-    (tie.spec
-    Inv-loop
-    μ-loop
-    loop-holds
-    cast-s
-    slice-write-s
-    add-i
-    sub-left
-    loop-less
-    loop-again
-    same-length
-    returns)
+put-spec = tie.close (tie.spec write-requires same-length returns write-requires-2 same-length-2 returns-2)

@@ -5,7 +5,7 @@ use lib.Ieee.{div, ofBits, binary64}
 use borrow.Author.Needs.{needs}
 use Rattle.words.specs.Narrow.{narrowS}
 use Rattle.words.proofs.PatternLaws.{is-nan, of-pattern, up-to-inf}
-use Rattle.words.proofs.NarrowLaws.{narrowed-plus, narrowed-minus}
+use Rattle.words.proofs.NarrowLaws.{narrowed-either}
 use Rattle.words.proofs.narrow.narrow.Statement.{statement}
 use Rattle.words.proofs.narrow.narrow.Tie as tie
 
@@ -30,30 +30,20 @@ narrowed-requires c κs =
 cast-of-bits-f32 : tie.Need-cast-of-bits-f32
 cast-of-bits-f32 c = omega arith
 
+mul-of-bits-f32 : tie.Need-mul-of-bits-f32
+mul-of-bits-f32 c = search needs
+
+add-of-bits-f32 : tie.Need-add-of-bits-f32
+add-of-bits-f32 c = search needs
+
 of-bits-f32-requires : tie.Need-of-bits-f32-requires
 of-bits-f32-requires c κs = search needs
 
 returns-2 : tie.Need-returns-2
 returns-2 c =
-    let a = c .before .before in
+    let a = c .before in
     c .of-bits-f32 .ensures
-    ∙ narrowed-plus (a .before .bits-of .result) (a .narrowed .result) (c .before .if2 .taken) (a .narrowed .ensures)
-    ∙ ap narrowS (held (a .before))
-
-cast-of-bits-f32-2 : tie.Need-cast-of-bits-f32-2
-cast-of-bits-f32-2 c = omega arith
-
-add-of-bits-f32 : tie.Need-add-of-bits-f32
-add-of-bits-f32 c = omega arith
-
-of-bits-f32-requires-2 : tie.Need-of-bits-f32-requires-2
-of-bits-f32-requires-2 c κs = search needs
-
-returns-3 : tie.Need-returns-3
-returns-3 c =
-    let a = c .before .before in
-    c .of-bits-f322 .ensures
-    ∙ narrowed-minus (a .before .bits-of .result) (a .narrowed .result) (c .before .if2 .left) (omega arith) (a .narrowed .ensures)
+    ∙ narrowed-either (a .before .bits-of .result) (a .narrowed .result) (omega arith) (a .narrowed .ensures)
     ∙ ap narrowS (held (a .before))
 
 pub narrow-spec : {M : Type 1} → statement M
@@ -63,10 +53,8 @@ narrow-spec =
     returns
     bits-of-requires
     narrowed-requires
+    mul-of-bits-f32
+    add-of-bits-f32
     cast-of-bits-f32
     of-bits-f32-requires
-    returns-2
-    cast-of-bits-f32-2
-    add-of-bits-f32
-    of-bits-f32-requires-2
-    returns-3)
+    returns-2)
