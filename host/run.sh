@@ -38,16 +38,17 @@ if command -v "${CXX:-c++}" >/dev/null; then "${CXX:-c++}" -Wall -Wextra -Werror
 
 # the entries
 set -- "$@" $run
-pairs=
-for name in answers answers_kinds answers_unknown answers_cut answers_long; do pairs="$pairs crates/$name/stdin crates/$name/stdout"; done
+pairs='crates/answers/stdin crates/answers/stdout'
+for name in kinds unknown unknown_high cut long; do pairs="$pairs cases/$name.requests cases/$name.answers"; done
 "$@" "$out/test" $pairs
 
 # the host: its output is the stored one without the closing two bytes, and its status 0 where the stop code is 0
-for name in answers answers_kinds answers_empty answers_unknown answers_cut answers_long; do
+for requests in crates/answers/stdin cases/*.requests; do
+    answers=$(echo "$requests" | sed 's/requests$/answers/; s/stdin$/stdout/')
     status=0
-    "$@" "$out/gateway" "crates/$name/stdin" >"$out/said" || status=$?
-    head -c -2 "crates/$name/stdout" | cmp - "$out/said" || die "gateway differs on $name"
-    code=$(tail -c 1 "crates/$name/stdout" | od -An -tu1 | tr -d ' ')
-    [ "$status" -eq $((code != 0)) ] || die "gateway ended with status $status on $name, and code $code is stored"
+    "$@" "$out/gateway" "$requests" >"$out/said" || status=$?
+    head -c -2 "$answers" | cmp - "$out/said" || die "gateway differs on $requests"
+    code=$(tail -c 1 "$answers" | od -An -tu1 | tr -d ' ')
+    [ "$status" -eq $((code != 0)) ] || die "gateway ended with status $status on $requests, and code $code is stored"
 done
 echo "host: the entries and the host answer as stored"
