@@ -1,22 +1,31 @@
 /*
- * driver.c: times each function of the port, of crate libm, of glibc and of musl on the same arguments,
- * and the batch of the port and of the Rust on the same requests. 4,000 arguments spread evenly over the
- * function's regions, both signs, shuffled; the libraries take turns; the best of REPEATS passes counts.
- * Prints a line for each: what, library, nanoseconds a call. musl's functions are those of its libc.a with
- * the prefix musl_, where HAVE_MUSL is set.
+ * driver.c: the port beside crate libm, glibc and musl on the same arguments, for bench/run.
+ *
+ *     driver names                        what can be timed, a line each
+ *     driver same SEED                    a pass of port and Rust of each, whose answers are compared
+ *     driver times SEED                   times all of it: lines WHAT LIBRARY NANOSECONDS-A-CALL
+ *     driver passes WHAT LIBRARY COUNT    so many passes of one library, for a counter of instructions
+ *
+ * A pass is 4,000 arguments spread evenly over the function's regions, of both signs, shuffled. The libraries take turns,
+ * and the best of REPEATS passes counts. After each turn every answer of the port is held to the Rust's: where one differs,
+ * the function and the argument are said and the status is 1. musl's functions are those of its libc.a with the prefix musl_, where HAVE_MUSL
+ * is set. kinds.h is made from kinds.txt, and a function finds its kind there by its name.
  */
 #define _GNU_SOURCE
 #include "raveltrellis.h"
+#include <inttypes.h>
 #include <math.h>
 #include <stdio.h>
 #include <stdlib.h>
 #include <string.h>
 #include <time.h>
+#include <unistd.h>
 
-enum { COUNT = 4000, REPEATS = 300, LIBRARIES = 4 };
+enum { COUNT = 4000, REPEATS = 300, PORT = 0, RUST = 1, LIBRARIES = 4, LONGEST = 32, SHOWN = 20 };
 
 uint64_t rust_tgamma(uint64_t x), rust_lgamma_r(uint64_t x), rust_erf(uint64_t x), rust_erfc(uint64_t x);
 uint32_t rust_lgammaf_r(uint32_t x), rust_erff(uint32_t x), rust_erfcf(uint32_t x);
+void rust_erf_records(const uint8_t *requests, size_t count, uint8_t *answers);
 uint64_t rust_batch_code(const uint8_t *, size_t, uint8_t *, size_t);
 
 static double f64_of(uint64_t x) { double d; memcpy(&d, &x, 8); return d; }
@@ -55,6 +64,34 @@ BY_BITS_F32(by_musl_erfcf, musl_erfcf(f32_of(x)))
 
 static const char *const LIBRARY[LIBRARIES] = {"port", "Rust", "glibc", "musl"};
 
+/* The kinds of kinds.txt. */
+struct kind {
+    int number;
+    const char *name;
+    size_t body, values, tail;
+};
+
+static const struct kind KINDS[] = {
+#define KIND(number, name, body, values, tail) {number, #name, body, values, tail},
+#include "kinds.h"
+#undef KIND
+};
+
+enum { KIND_COUNT = sizeof KINDS / sizeof KINDS[0] };
+
+static const struct kind *kind_named(const char *name) {
+    for (size_t i = 0; i < KIND_COUNT; i++)
+        if (strcmp(KINDS[i].name, name) == 0) return &KINDS[i];
+    fprintf(stderr, "driver: kinds.txt has no kind %s\n", name);
+    exit(2);
+}
+
+static const struct kind *kind_numbered(int number) {
+    for (size_t i = 0; i < KIND_COUNT; i++)
+        if (KINDS[i].number == number) return &KINDS[i];
+    return NULL;
+}
+
 /* The regions of a function by the sizes where they begin; the last one ends the last region. */
 struct regions {
     int count;
@@ -67,6 +104,7 @@ static const struct regions ERF = {7, {0x1p-60, 0x1p-28, 0.25, 0.84375, 1.25, 2.
 static const struct regions ERFC = {7, {0x1p-60, 0x1p-56, 0.25, 0.84375, 1.25, 2.857, 28, 40}};
 static const struct regions LGAMMAF = {9, {0x1p-30, 0x1p-21, 0.23, 0.73, 1.23, 1.73, 2, 8, 0x1p58, 0x1p70}};
 
+/* A function of each library: of f64, or of f32. A log-gamma is timed by its value. */
 struct function {
     const char *name;
     const struct regions *regions;
@@ -84,7 +122,17 @@ static const struct function FUNCTIONS[] = {
     {"erfcf", &ERFC, {NULL}, {rvt_erfcf, rust_erfcf, glibc_erfcf, MUSL(erfcf)}},
 };
 
-static uint64_t state = 1;
+enum { FUNCTION_COUNT = sizeof FUNCTIONS / sizeof FUNCTIONS[0] };
+
+static const struct function *function_named(const char *name) {
+    for (size_t i = 0; i < FUNCTION_COUNT; i++)
+        if (strcmp(FUNCTIONS[i].name, name) == 0) return &FUNCTIONS[i];
+    return NULL;
+}
+
+/* ---- arguments */
+
+static uint64_t state;
 
 static uint64_t next(void) { /* splitmix64 */
     uint64_t z = state += 0x9e3779b97f4a7c15;
@@ -93,12 +141,104 @@ static uint64_t next(void) { /* splitmix64 */
     return z ^ z >> 31;
 }
 
-/* A number of a region, of either sign, its patterns even. */
-static double number(const struct regions *r, int region) {
-    uint64_t from = bits_of(r->at[region]), upto = bits_of(r->at[region + 1]);
+/* The bits of an argument: a region, then a pattern within it, then a sign. */
+static uint64_t argument(const struct function *f) {
+    int region = (int)(next() % (uint64_t)f->regions->count);
+    uint64_t from = bits_of(f->regions->at[region]), upto = bits_of(f->regions->at[region + 1]);
     double x = f64_of(from + next() % (upto - from));
-    return next() % 2 ? x : -x;
+    if (next() % 2) x = -x;
+    return f->f64[PORT] ? bits_of(x) : bits_of_f32((float)x);
 }
+
+/* What one pass works on: arguments, or the requests of COUNT records. */
+static uint64_t arguments[COUNT];
+static uint8_t requests[LONGEST * COUNT];
+static size_t requests_length;
+
+static void make_arguments(const struct function *f) {
+    for (int i = 0; i < COUNT; i++) arguments[i] = argument(f);
+}
+
+/* Requests of one function, or of every function by turns. */
+static void make_requests(const struct function *only) {
+    requests_length = 0;
+    for (int i = 0; i < COUNT; i++) {
+        const struct function *f = only ? only : &FUNCTIONS[next() % FUNCTION_COUNT];
+        const struct kind *k = kind_named(f->name);
+        uint64_t bits = argument(f);
+        requests[requests_length++] = (uint8_t)k->number;
+        for (size_t j = 0; j < k->body; j++) requests[requests_length++] = (uint8_t)(bits >> 8 * j);
+    }
+}
+
+/* ---- a pass */
+
+static uint64_t values[LIBRARIES][COUNT];
+static uint8_t answers[2][LONGEST * COUNT];
+
+static void functions_pass(const struct function *f, int library) {
+    uint64_t (*wide)(uint64_t) = f->f64[library], *to = values[library];
+    uint32_t (*narrow)(uint32_t) = f->f32[library];
+    if (wide)
+        for (int i = 0; i < COUNT; i++) to[i] = wide(arguments[i]);
+    else
+        for (int i = 0; i < COUNT; i++) to[i] = narrow((uint32_t)arguments[i]);
+}
+
+/* The port's batch; the Rust's batch, or its loop where the records are erf's alone. */
+static void batch_pass(int of_erf, int library) {
+    uint8_t *to = answers[library];
+    uint64_t code = 0;
+    if (library == PORT)
+        code = rvt_batch_code(requests, requests_length, to, sizeof answers[0]);
+    else if (of_erf)
+        rust_erf_records(requests, COUNT, to);
+    else
+        code = rust_batch_code(requests, requests_length, to, sizeof answers[0]);
+    if (code == 0) return;
+    fprintf(stderr, "driver: the batch of the %s stopped with code %d\n", LIBRARY[library], (int)code);
+    exit(1);
+}
+
+/* ---- answers that differ */
+
+/* Says a difference, where few have been said. */
+static void differs(const char *what, const char *name, uint64_t x, uint64_t port, uint64_t rust) {
+    static int said;
+    if (said++ >= SHOWN) return;
+    fprintf(stderr, "bench: %s: %s of 0x%" PRIx64 ": port 0x%" PRIx64 ", Rust 0x%" PRIx64 "\n", what, name, x, port, rust);
+}
+
+static void same_values(const struct function *f) {
+    if (memcmp(values[PORT], values[RUST], sizeof values[0]) == 0) return;
+    for (int i = 0; i < COUNT; i++)
+        if (values[PORT][i] != values[RUST][i]) differs("function", f->name, arguments[i], values[PORT][i], values[RUST][i]);
+    exit(1);
+}
+
+static uint64_t word(const uint8_t *bytes, size_t width) {
+    uint64_t x = 0;
+    while (width > 0) x = x << 8 | bytes[--width];
+    return x;
+}
+
+/* The records are told apart by their kinds. What is shown of an answer is its first value. */
+static void same_answers(const char *what) {
+    if (memcmp(answers[PORT], answers[RUST], sizeof answers[0]) == 0) return;
+    for (size_t read = 0, at = 0; read < requests_length;) {
+        const struct kind *k = kind_numbered(requests[read]);
+        const uint8_t *port = answers[PORT] + at, *rust = answers[RUST] + at;
+        size_t length = 1 + k->values + k->tail;
+        if (memcmp(port, rust, length) != 0)
+            differs(what, k->name, word(requests + read + 1, k->body), word(port + 1, k->body), word(rust + 1, k->body));
+        read += 1 + k->body;
+        at += length;
+    }
+    fprintf(stderr, "bench: %s: port and Rust wrote different bytes\n", what);
+    exit(1);
+}
+
+/* ---- the clock */
 
 static double now(void) {
     struct timespec t;
@@ -106,73 +246,112 @@ static double now(void) {
     return t.tv_sec * 1e9 + t.tv_nsec;
 }
 
-static uint64_t sink;
-
-static double pass(const struct function *f, int library, const double *x) {
-    static uint64_t wide[COUNT];
-    static uint32_t narrow[COUNT];
-    uint64_t sum = 0;
-    for (int i = 0; i < COUNT; i++) { wide[i] = bits_of(x[i]); narrow[i] = bits_of_f32((float)x[i]); }
-    double start = now();
-    if (f->f64[0])
-        for (int i = 0; i < COUNT; i++) sum += f->f64[library](wide[i]);
-    else
-        for (int i = 0; i < COUNT; i++) sum += f->f32[library](narrow[i]);
-    double took = now() - start;
-    sink += sum;
-    return took;
+static void print_times(const char *what, const double *best) {
+    for (int l = 0; l < LIBRARIES; l++)
+        if (best[l] < 1e300) printf("%s %s %.2f\n", what, LIBRARY[l], best[l] / COUNT);
+    fflush(stdout);
 }
 
 static void time_function(const struct function *f) {
-    static double x[COUNT];
-    double best[LIBRARIES];
-    for (int i = 0; i < COUNT; i++) x[i] = number(f->regions, (int)(next() % (uint64_t)f->regions->count));
-    for (int l = 0; l < LIBRARIES; l++) best[l] = 1e300;
-    for (int n = 0; n < REPEATS; n++)
-        for (int l = 0; l < LIBRARIES; l++)
-            if (f->f64[l] || f->f32[l]) best[l] = fmin(best[l], pass(f, l, x));
-    for (int l = 0; l < LIBRARIES; l++)
-        if (best[l] < 1e300) printf("%s %s %.2f\n", f->name, LIBRARY[l], best[l] / COUNT);
-    fflush(stdout);
-}
-
-/* A request of the kind at a place of FUNCTIONS; answers the bytes written. */
-static size_t request(uint8_t *to, size_t place) {
-    static const uint8_t KIND[] = {1, 2, 3, 4, 17, 19, 20};
-    const struct function *f = &FUNCTIONS[place];
-    double x = number(f->regions, (int)(next() % (uint64_t)f->regions->count));
-    uint64_t bits = f->f64[0] ? bits_of(x) : bits_of_f32((float)x);
-    size_t width = f->f64[0] ? 8 : 4;
-    to[0] = KIND[place];
-    for (size_t i = 0; i < width; i++) to[1 + i] = (uint8_t)(bits >> 8 * i);
-    return 1 + width;
-}
-
-/* A batch of COUNT requests: of every kind by turns, or of one kind alone. */
-static void time_batch(const char *name, int only) {
-    static uint8_t requests[9 * COUNT], answers[10 * COUNT];
-    size_t length = 0;
-    double best[2] = {1e300, 1e300};
-    for (int i = 0; i < COUNT; i++) length += request(requests + length, only < 0 ? next() % 7 : (size_t)only);
-    for (int n = 0; n < REPEATS; n++)
-        for (int l = 0; l < 2; l++) {
-            memset(answers, 0, sizeof answers);
+    double best[LIBRARIES] = {1e300, 1e300, 1e300, 1e300};
+    make_arguments(f);
+    for (int n = 0; n < REPEATS; n++) {
+        for (int l = 0; l < LIBRARIES; l++) {
+            if (!f->f64[l] && !f->f32[l]) continue;
+            memset(values[l], 0, sizeof values[l]);
             double start = now();
-            uint64_t code = (l ? rust_batch_code : rvt_batch_code)(requests, length, answers, sizeof answers);
+            functions_pass(f, l);
             best[l] = fmin(best[l], now() - start);
-            if (code != 0) { fprintf(stderr, "%s: code %d\n", name, (int)code); exit(1); }
         }
-    for (int l = 0; l < 2; l++) printf("%s %s %.2f\n", name, LIBRARY[l], best[l] / COUNT);
-    fflush(stdout);
+        same_values(f);
+    }
+    print_times(f->name, best);
 }
 
-int main(void) {
-    for (size_t i = 0; i < sizeof FUNCTIONS / sizeof FUNCTIONS[0]; i++) {
-        fprintf(stderr, "%s\n", FUNCTIONS[i].name);
+static void time_batch(const char *what, int of_erf) {
+    double best[LIBRARIES] = {1e300, 1e300, 1e300, 1e300};
+    make_requests(of_erf ? function_named("erf") : NULL);
+    for (int n = 0; n < REPEATS; n++) {
+        for (int l = PORT; l <= RUST; l++) {
+            memset(answers[l], 0, sizeof answers[l]);
+            double start = now();
+            batch_pass(of_erf, l);
+            best[l] = fmin(best[l], now() - start);
+        }
+        same_answers(what);
+    }
+    print_times(what, best);
+}
+
+/* ---- the commands */
+
+static const char BATCH[] = "batch", ERF_RECORDS[] = "erf_records";
+
+static int names(void) {
+    for (size_t i = 0; i < FUNCTION_COUNT; i++) puts(FUNCTIONS[i].name);
+    puts(BATCH);
+    puts(ERF_RECORDS);
+    for (size_t i = 0; i < KIND_COUNT; i++)
+        if (!function_named(KINDS[i].name)) fprintf(stderr, "bench: kind %d, %s, is not timed\n", KINDS[i].number, KINDS[i].name);
+    return 0;
+}
+
+static void progress(const char *what) {
+    if (isatty(2)) fprintf(stderr, "bench: %s\n", what);
+}
+
+static int times(uint64_t seed) {
+    state = seed;
+    for (size_t i = 0; i < FUNCTION_COUNT; i++) {
+        progress(FUNCTIONS[i].name);
         time_function(&FUNCTIONS[i]);
     }
-    fprintf(stderr, "batch\n");
-    time_batch("batch", -1);
-    time_batch("batch_of_erf", 2);
-    return sink == 42;
+    progress(BATCH);
+    time_batch(BATCH, 0);
+    progress(ERF_RECORDS);
+    time_batch(ERF_RECORDS, 1);
+    return 0;
+}
+
+static int same(uint64_t seed) {
+    state = seed;
+    for (size_t i = 0; i < FUNCTION_COUNT; i++) {
+        make_arguments(&FUNCTIONS[i]);
+        functions_pass(&FUNCTIONS[i], PORT);
+        functions_pass(&FUNCTIONS[i], RUST);
+        same_values(&FUNCTIONS[i]);
+    }
+    for (int of_erf = 0; of_erf <= 1; of_erf++) {
+        make_requests(of_erf ? function_named("erf") : NULL);
+        batch_pass(of_erf, PORT);
+        batch_pass(of_erf, RUST);
+        same_answers(of_erf ? ERF_RECORDS : BATCH);
+    }
+    return 0;
+}
+
+static int passes(const char *what, const char *library, long count) {
+    const struct function *f = function_named(what);
+    int of_erf = strcmp(what, ERF_RECORDS) == 0, l = strcmp(library, LIBRARY[PORT]) == 0 ? PORT : RUST;
+    state = 1;
+    if (f)
+        make_arguments(f);
+    else
+        make_requests(of_erf ? function_named("erf") : NULL);
+    for (long n = 0; n < count; n++) {
+        if (f)
+            functions_pass(f, l);
+        else
+            batch_pass(of_erf, l);
+    }
+    return 0;
+}
+
+int main(int count, char **words) {
+    if (count == 2 && strcmp(words[1], "names") == 0) return names();
+    if (count == 3 && strcmp(words[1], "same") == 0) return same(strtoull(words[2], NULL, 10));
+    if (count == 3 && strcmp(words[1], "times") == 0) return times(strtoull(words[2], NULL, 10));
+    if (count == 5 && strcmp(words[1], "passes") == 0) return passes(words[2], words[3], strtol(words[4], NULL, 10));
+    fprintf(stderr, "usage: driver names | same SEED | times SEED | passes WHAT LIBRARY COUNT\n");
+    return 2;
 }

@@ -1,17 +1,22 @@
-# table.awk: the driver's lines as a table in Markdown, nanoseconds a call and the port's share of the Rust's.
+# table.awk: a summary as a table in Markdown.
+/^#/ { sub(/^# /, ""); head = $0; next }
 {
     if (!($1 in seen)) { seen[$1] = 1; names[++count] = $1 }
-    time[$1, $2] = $3
+    if ($2 == "ratio") ratio[$1] = $3 == $5 ? $4 : sprintf("%s (%s to %s)", $4, $3, $5)
+    else { number[$1, $2] = $3; if ($2 == "glibc" || $2 == "musl") others = 1 }
 }
-function show(name, library) { return ((name, library) in time) ? sprintf("%.1f", time[name, library]) : "" }
+function show(name, library) { return ((name, library) in number) ? number[name, library] : "" }
 END {
-    print "| | port | Rust | port / Rust | glibc | musl |"
-    print "|---|---|---|---|---|---|"
+    if (head != "") print head "\n"
+    print "| | port | Rust | port / Rust |" (others ? " glibc | musl |" : "")
+    print "|---|---|---|---|" (others ? "---|---|" : "")
     for (i = 1; i <= count; i++) {
         n = names[i]
         label = n
         if (n == "batch") label = "batch of all kinds, a record"
-        if (n == "batch_of_erf") label = "batch of erf alone, a record"
-        printf "| %s | %s | %s | %.2f | %s | %s |\n", label, show(n, "port"), show(n, "Rust"), time[n, "port"] / time[n, "Rust"], show(n, "glibc"), show(n, "musl")
+        if (n == "erf_records") label = "batch of erf against a loop, a record"
+        printf "| %s | %s | %s | %s |", label, show(n, "port"), show(n, "Rust"), ratio[n]
+        if (others) printf " %s | %s |", show(n, "glibc"), show(n, "musl")
+        print ""
     }
 }

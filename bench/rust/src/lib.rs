@@ -1,117 +1,38 @@
-//! Crate libm by bits, as the port's C entries have it, and a batch as one would write it in plain Rust
-//! over lent buffers. A NaN keeps the bits that the Rust gives it.
+//! Crate libm at its best, for bench/driver.c: its functions by bits, as the port's C entries have them; a plain loop over
+//! erf records; and a batch of all kinds. Each is built alone, with the crate's functions inlined. A NaN is made one, as in
+//! the port.
 
-#[no_mangle]
-pub extern "C" fn rust_tgamma(x: u64) -> u64 {
-    libm::tgamma(f64::from_bits(x)).to_bits()
-}
+#![no_std]
 
-#[no_mangle]
-pub extern "C" fn rust_lgamma_r(x: u64) -> u64 {
-    libm::lgamma_r(f64::from_bits(x)).0.to_bits()
-}
+#[cfg(feature = "batch")]
+mod batch;
+#[cfg(feature = "functions")]
+mod functions;
+#[cfg(feature = "records")]
+mod records;
 
-#[no_mangle]
-pub extern "C" fn rust_erf(x: u64) -> u64 {
-    libm::erf(f64::from_bits(x)).to_bits()
-}
+use core::panic::PanicInfo;
 
-#[no_mangle]
-pub extern "C" fn rust_erfc(x: u64) -> u64 {
-    libm::erfc(f64::from_bits(x)).to_bits()
-}
-
-#[no_mangle]
-pub extern "C" fn rust_lgammaf_r(x: u32) -> u32 {
-    libm::lgammaf_r(f32::from_bits(x)).0.to_bits()
-}
-
-#[no_mangle]
-pub extern "C" fn rust_erff(x: u32) -> u32 {
-    libm::erff(f32::from_bits(x)).to_bits()
-}
-
-#[no_mangle]
-pub extern "C" fn rust_erfcf(x: u32) -> u32 {
-    libm::erfcf(f32::from_bits(x)).to_bits()
-}
-
-fn sign_byte(sign: i32) -> u8 {
-    if sign < 0 {
-        255
+#[allow(dead_code)]
+fn bits(x: f64) -> u64 {
+    if x.is_nan() {
+        0x7ff8_0000_0000_0000
     } else {
-        1
+        x.to_bits()
     }
 }
 
-/// The value's bytes and, where the kind has one, the sign byte, in the first 9 places; and how many.
-fn answer(kind: u8, body: &[u8]) -> ([u8; 9], usize) {
-    let mut bytes = [0; 9];
-    if let Ok(bits) = body.try_into() {
-        let x = f64::from_bits(u64::from_le_bytes(bits));
-        let value = match kind {
-            1 => libm::tgamma(x),
-            2 => {
-                let (value, sign) = libm::lgamma_r(x);
-                bytes[8] = sign_byte(sign);
-                value
-            }
-            3 => libm::erf(x),
-            _ => libm::erfc(x),
-        };
-        bytes[..8].copy_from_slice(&value.to_le_bytes());
-        return (bytes, if kind == 2 { 9 } else { 8 });
+#[allow(dead_code)]
+fn bits_of_f32(x: f32) -> u32 {
+    if x.is_nan() {
+        0x7fc0_0000
+    } else {
+        x.to_bits()
     }
-    let x = f32::from_bits(u32::from_le_bytes(body.try_into().unwrap_or([0; 4])));
-    let value = match kind {
-        17 => {
-            let (value, sign) = libm::lgammaf_r(x);
-            bytes[4] = sign_byte(sign);
-            value
-        }
-        19 => libm::erff(x),
-        _ => libm::erfcf(x),
-    };
-    bytes[..4].copy_from_slice(&value.to_le_bytes());
-    (bytes, if kind == 17 { 5 } else { 4 })
 }
 
-fn batch(mut requests: &[u8], answers: &mut [u8]) -> u64 {
-    let mut written = 0;
-    while let Some((&kind, rest)) = requests.split_first() {
-        let width = match kind {
-            1..=4 => 8,
-            17 | 19 | 20 => 4,
-            _ => return 1,
-        };
-        let body = match rest.get(..width) {
-            Some(body) => body,
-            None => return 2,
-        };
-        let (bytes, length) = answer(kind, body);
-        let place = match answers.get_mut(written..written + 1 + length) {
-            Some(place) => place,
-            None => return 3,
-        };
-        place[0] = kind + 128;
-        place[1..].copy_from_slice(&bytes[..length]);
-        written += 1 + length;
-        requests = &rest[width..];
-    }
-    0
-}
-
-/// # Safety
-/// The pointers are those of two buffers of these lengths, which do not overlap.
-#[no_mangle]
-pub unsafe extern "C" fn rust_batch_code(
-    requests: *const u8,
-    requests_length: usize,
-    answers: *mut u8,
-    answers_length: usize,
-) -> u64 {
-    batch(
-        std::slice::from_raw_parts(requests, requests_length),
-        std::slice::from_raw_parts_mut(answers, answers_length),
-    )
+/// Nothing here panics.
+#[panic_handler]
+fn panic(_: &PanicInfo) -> ! {
+    loop {}
 }

@@ -1,0 +1,26 @@
+# summary.awk: lines RUN WHAT LIBRARY NUMBER to lines WHAT LIBRARY MEDIAN and WHAT ratio LEAST MEDIAN MOST, of the port to the Rust run by run.
+function add(what, column, number) {
+    if (!((what, column) in many)) many[what, column] = 0
+    list[what, column, ++many[what, column]] = number
+}
+function sorted(what, column,    i, j, n, t) {
+    n = many[what, column]
+    for (i = 1; i <= n; i++) one[i] = list[what, column, i] + 0
+    for (i = 2; i <= n; i++) for (j = i; j > 1 && one[j - 1] > one[j]; j--) { t = one[j]; one[j] = one[j - 1]; one[j - 1] = t }
+    return n
+}
+function median(n) { return n % 2 ? one[(n + 1) / 2] : (one[n / 2] + one[n / 2 + 1]) / 2 }
+{
+    if (!($2 in seen)) { seen[$2] = 1; names[++count] = $2 }
+    add($2, $3, $4)
+    if ($3 == "port") port[$1, $2] = $4
+    if ($3 == "Rust") add($2, "ratio", port[$1, $2] / $4)
+}
+END {
+    split("port Rust glibc musl", library, " ")
+    for (i = 1; i <= count; i++) {
+        for (l = 1; l <= 4; l++) if ((names[i], library[l]) in many) { n = sorted(names[i], library[l]); printf "%s %s %.1f\n", names[i], library[l], median(n) }
+        n = sorted(names[i], "ratio")
+        printf "%s ratio %.2f %.2f %.2f\n", names[i], one[1], median(n), one[n]
+    }
+}
