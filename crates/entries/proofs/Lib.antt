@@ -1,2 +1,3 @@
--- What the contracts determine.
+-- What the contracts determine, and the laws of a report.
+pub mod ReportLaws
 pub mod Unique

@@ -7,6 +7,7 @@ use contract.Lifetimes.{Lfts}
 use denote.Ref.{now}
 use Rattle.stream.specs.Run.{Out}
 use Rattle.entries.specs.Post.{Reported}
+use Rattle.entries.proofs.report.rvt_batch.Reads as batch
 use Rattle.entries.proofs.rvt_tgamma.Reads as tgamma
 use Rattle.entries.proofs.rvt_lgamma_r_value.Reads as value
 use Rattle.entries.proofs.rvt_lgamma_r_sign.Reads as sign
@@ -63,3 +64,8 @@ read-determined κs a r r' s s' p q = same _ _ r r' _ (now (s .1 .0)) (now (s' .
 
 pub written-determined : (κs : Lfts 2) (a : _) (r r' : ℕ) (s s' : _) → written.Post κs a r s → written.Post κs a r' s' → (r ≡ r') × (now (s .1 .0) ≡ now (s' .1 .0))
 written-determined κs a r r' s s' p q = same _ _ r r' _ (now (s .1 .0)) (now (s' .1 .0)) p q
+
+-- the code, and every byte of the answers and of the report
+pub batch-determined : (κs : Lfts 3) (a : _) (r r' : ℕ) (s s' : _) → batch.Post κs a r s → batch.Post κs a r' s' →
+    (r ≡ r') × ((now (s .1 .0) ≡ now (s' .1 .0)) × (now (s .1 .1 .0) ≡ now (s' .1 .1 .0)))
+batch-determined κs a r r' s s' p q = (p .code ∙ sym (q .code), (p .answers ∙ sym (q .answers), p .report ∙ sym (q .report)))

@@ -1,2 +1,3 @@
--- What a batch entry promises.
+-- What the batch entries promise.
 pub mod Post
+pub mod Batch
