@@ -1,7 +1,9 @@
 //! Compares the port with the Rust, bit for bit: the leaves by the program `leaves`, the request
 //! stream by the program `answers`.
 
+mod constants;
 mod exhaustive;
+mod kinds;
 mod leaves;
 mod patterns;
 mod port;
@@ -18,6 +20,7 @@ use port::{failure, Program};
 use powers::Powers;
 use random::Random;
 use std::io::{self, Read, Write};
+use std::path::Path;
 use std::process::ExitCode;
 use tally::{Progress, Tally};
 use traffic::Streams;
@@ -28,11 +31,13 @@ const USAGE: &str = "usage:
                                      broken off goes on where it was
   compare stream SEED COUNT [FILE]   COUNT requests of mixed kinds beside the systematic ones, and
                                      damaged streams
+  compare constants [DIR]            every constant of the Rust in DIR, with the definitions and the code
   compare sample SEED STDIN STDOUT   writes a list of requests to leaves, and the Rust's answers
   compare requests SEED COUNT        writes COUNT requests of mixed kinds
   compare answer                     the Rust in place of the program leaves
   compare answers                    the Rust in place of the program answers
-FILE is a program to ask in place of the port's own.";
+FILE is a program to ask in place of the port's own; DIR the folder of crate libm, where it is not the one
+that this was built with.";
 
 /// The damaged streams of one run.
 const DAMAGED: u64 = 300;
@@ -61,6 +66,7 @@ fn run(words: &[&str]) -> io::Result<u8> {
         ["stream", seed, count, file @ ..] => {
             compare_streams(number(seed)?, number(count)?, &program("answers", file)?)
         }
+        ["constants", libm @ ..] => compare_constants(libm),
         ["sample", seed, requests, answers] => {
             let list = sample::requests(number(seed)?);
             std::fs::write(requests, list.concat())?;
@@ -83,7 +89,7 @@ fn run(words: &[&str]) -> io::Result<u8> {
             Ok(0)
         }
         ["answers"] => {
-            io::stdout().write_all(&stream::program(&input()?, &stream::KINDS))?;
+            io::stdout().write_all(&stream::program(&input()?))?;
             Ok(0)
         }
         _ => Err(failure(USAGE)),
@@ -184,6 +190,8 @@ fn question(leaf: &Leaf, patterns: &Patterns, seed: u64, place: u64) -> (u64, u6
 
 fn compare_all_singles(program: &Program) -> io::Result<u8> {
     let mut tally = Tally::default();
+    // a program that is not built yet is built now, before its mark is taken
+    program.exchange(&[])?;
     let mut journal = exhaustive::Journal::open(program)?;
     for leaf in exhaustive::leaves() {
         exhaustive::each_block(leaf, &mut journal, &mut tally, |first, tally| {
@@ -217,26 +225,41 @@ fn compare_streams(seed: u64, count: u64, program: &Program) -> io::Result<u8> {
     Ok(tally.finish())
 }
 
+fn compare_constants(libm: &[&str]) -> io::Result<u8> {
+    let libm = match libm {
+        [] => env!("LIBM_DIR"),
+        [libm] => libm,
+        _ => return Err(failure(USAGE)),
+    };
+    let mut tally = Tally::default();
+    let found = constants::compare(Path::new(libm), &port::repository()?, &mut tally)?;
+    println!("{found}");
+    Ok(tally.finish())
+}
+
 /// Compares the answers to a stream record by record, and the end behind them.
 fn compare_stream(requests: &[u8], program: &Program, tally: &mut Tally) -> io::Result<()> {
-    let got = program.exchange(requests)?;
-    let want = stream::program(requests, &stream::KINDS);
+    compare_answers(requests, &program.exchange(requests)?, tally);
+    Ok(())
+}
+
+/// Compares what a program wrote for a stream with what the Rust answers.
+fn compare_answers(requests: &[u8], got: &[u8], tally: &mut Tally) {
+    let want = stream::program(requests);
     let (mut read, mut written) = (0, 0);
-    for _ in 0..stream::records(requests, &stream::KINDS) {
-        let request = &requests[read..][..1 + stream::body_length(requests[read]).unwrap()];
-        let length = stream::answer_length(request[0]);
-        let answer = &want[written..][..length];
-        let port = got.get(written..written + length).unwrap_or(&[]);
+    for (kind, request) in stream::records(requests) {
+        let end = written + kind.answer_length();
+        let answer = &want[written..end];
+        let port = got.get(written..end).unwrap_or(&[]);
         tally.count(port == answer, || {
             format!("request {request:02x?}: port {port:02x?}, Rust {answer:02x?}")
         });
         read += request.len();
-        written += length;
+        written = end;
     }
     let (port, rust) = (got.get(written..).unwrap_or(&[]), &want[written..]);
     tally.count(port == rust, || {
         let front = &requests[read..requests.len().min(read + 9)];
         format!("end of a stream at {front:02x?}: port {port:02x?}, Rust {rust:02x?}")
     });
-    Ok(())
 }

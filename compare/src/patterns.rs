@@ -5,7 +5,7 @@ use crate::leaves::Second;
 use crate::random::Random;
 use std::f64::consts::FRAC_PI_4;
 
-#[derive(Clone, Copy, PartialEq)]
+#[derive(Clone, Copy, Debug, PartialEq)]
 pub enum Width {
     Double,
     Single,
@@ -100,7 +100,7 @@ impl Width {
         }
     }
 
-    fn sign_bit(self) -> u64 {
+    pub fn sign_bit(self) -> u64 {
         match self {
             Width::Double => 1 << 63,
             Width::Single => 1 << 31,

@@ -5,6 +5,13 @@ use std::path::PathBuf;
 use std::process::{Child, ChildStdin, ChildStdout, Command, Stdio};
 use std::thread;
 
+/// The build of the Rust that this is: without its features, or with those that it has by default.
+pub const BUILD: &str = if cfg!(feature = "arch") {
+    "default"
+} else {
+    "plain"
+};
+
 /// The requests that are written at once.
 const CHUNK: u64 = 8192;
 

@@ -122,7 +122,7 @@ impl Powers {
                 let exponent = 1023 + 20 + random.below(50);
                 (
                     x ^ sign,
-                    (exponent << 52) + (random.next() >> 12) ^ (random.next() & 1 << 63),
+                    ((exponent << 52) + (random.next() >> 12)) ^ (random.next() & 1 << 63),
                 )
             }
         }

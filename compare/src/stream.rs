@@ -1,10 +1,9 @@
 //! The request stream answered by libm: one byte of kind and the argument's bits, the lowest byte
 //! first; the batch with its room, and the form of the program `answers`.
 
+use crate::kinds::{kinds, Kind};
 use crate::leaves::{bits_of, bits_of_f32};
-
-/// The kinds of the table.
-pub const KINDS: [u8; 7] = [1, 2, 3, 4, 17, 19, 20];
+use std::sync::OnceLock;
 
 /// What a batch reports.
 #[derive(Debug, PartialEq)]
@@ -15,127 +14,120 @@ pub struct Report {
     pub written: usize,
 }
 
-/// The length of a request's body, where the kind is known.
-pub fn body_length(kind: u8) -> Option<usize> {
-    match kind {
-        1..=4 => Some(8),
-        17 | 19 | 20 => Some(4),
-        _ => None,
-    }
+/// What stands behind the first byte of an answer, from the argument's bits.
+type Function = fn(u64) -> Vec<u8>;
+
+/// A kind, with its answers.
+struct Row {
+    kind: &'static Kind,
+    function: Function,
 }
 
-/// The length of the answer to a known kind.
-pub fn answer_length(kind: u8) -> usize {
-    match kind {
-        2 => 10,
-        17 => 6,
-        19 | 20 => 5,
-        _ => 9,
-    }
+/// The libm function of a name in kinds.txt.
+fn function(name: &str) -> Option<Function> {
+    Some(match name {
+        "tgamma" => |b| double(libm::tgamma(f64::from_bits(b))),
+        "lgamma_r" => |b| {
+            let (value, sign) = libm::lgamma_r(f64::from_bits(b));
+            with_sign(double(value), sign)
+        },
+        "erf" => |b| double(libm::erf(f64::from_bits(b))),
+        "erfc" => |b| double(libm::erfc(f64::from_bits(b))),
+        "lgammaf_r" => |b| {
+            let (value, sign) = libm::lgammaf_r(f32::from_bits(b as u32));
+            with_sign(single(value), sign)
+        },
+        "erff" => |b| single(libm::erff(f32::from_bits(b as u32))),
+        "erfcf" => |b| single(libm::erfcf(f32::from_bits(b as u32))),
+        _ => return None,
+    })
 }
 
-/// The same, where only the given kinds are known.
-fn known_length(kind: u8, kinds: &[u8]) -> Option<usize> {
-    body_length(kind).filter(|_| kinds.contains(&kind))
+fn double(value: f64) -> Vec<u8> {
+    bits_of(value).to_le_bytes().to_vec()
 }
 
-/// How many whole records of the given kinds stand at the front.
-pub fn records(requests: &[u8], kinds: &[u8]) -> usize {
-    let (mut count, mut at) = (0, 0);
-    while let Some(length) = requests.get(at).and_then(|&kind| known_length(kind, kinds)) {
-        at += 1 + length;
-        if at > requests.len() {
-            break;
+fn single(value: f32) -> Vec<u8> {
+    bits_of_f32(value).to_le_bytes().to_vec()
+}
+
+fn with_sign(mut bytes: Vec<u8>, sign: i32) -> Vec<u8> {
+    bytes.push(if sign < 0 { 255 } else { 1 });
+    bytes
+}
+
+/// The rows of kinds.txt by the first byte of a request.
+fn row(number: u8) -> Option<&'static Row> {
+    static ROWS: OnceLock<Vec<Option<Row>>> = OnceLock::new();
+    let rows = ROWS.get_or_init(|| {
+        let mut rows: Vec<Option<Row>> = (0..256).map(|_| None).collect();
+        for kind in kinds() {
+            let function = function(kind.name)
+                .unwrap_or_else(|| panic!("no function for kinds.txt's {}", kind.name));
+            rows[usize::from(kind.number)] = Some(Row { kind, function });
         }
-        count += 1;
-    }
-    count
+        rows
+    });
+    rows[usize::from(number)].as_ref()
 }
 
-fn sign_byte(sign: i32) -> u8 {
-    if sign < 0 {
-        255
-    } else {
-        1
-    }
+/// The kind of a request's first byte, where it is known.
+pub fn kind_of(number: u8) -> Option<&'static Kind> {
+    row(number).map(|row| row.kind)
 }
 
-fn answer_double(kind: u8, x: f64) -> Vec<u8> {
-    let (value, sign) = match kind {
-        1 => (libm::tgamma(x), None),
-        2 => {
-            let (value, sign) = libm::lgamma_r(x);
-            (value, Some(sign))
-        }
-        3 => (libm::erf(x), None),
-        _ => (libm::erfc(x), None),
-    };
-    let mut answer = vec![kind + 128];
-    answer.extend(bits_of(value).to_le_bytes());
-    answer.extend(sign.map(sign_byte));
+/// The whole records that stand at the front, each with its kind.
+pub fn records(requests: &[u8]) -> impl Iterator<Item = (&'static Kind, &[u8])> {
+    let mut rest = requests;
+    std::iter::from_fn(move || {
+        let kind = kind_of(*rest.first()?)?;
+        let record = rest.get(..kind.request_length())?;
+        rest = &rest[record.len()..];
+        Some((kind, record))
+    })
+}
+
+/// The answer to a whole record.
+fn answer(row: &Row, record: &[u8]) -> Vec<u8> {
+    let mut bits = [0; 8];
+    bits[..row.kind.body].copy_from_slice(&record[1..]);
+    let mut answer = vec![record[0] + 128];
+    answer.extend((row.function)(u64::from_le_bytes(bits)));
     answer
 }
 
-fn answer_single(kind: u8, x: f32) -> Vec<u8> {
-    let (value, sign) = match kind {
-        17 => {
-            let (value, sign) = libm::lgammaf_r(x);
-            (value, Some(sign))
-        }
-        19 => (libm::erff(x), None),
-        _ => (libm::erfcf(x), None),
-    };
-    let mut answer = vec![kind + 128];
-    answer.extend(bits_of_f32(value).to_le_bytes());
-    answer.extend(sign.map(sign_byte));
-    answer
-}
-
-/// The answer to a record of a known kind, from its body alone.
-fn answer(kind: u8, body: &[u8]) -> Vec<u8> {
-    match body.try_into() {
-        Ok(bytes) => answer_double(kind, f64::from_bits(u64::from_le_bytes(bytes))),
-        Err(_) => {
-            let bytes = body.try_into().expect("a body has 8 or 4 bytes");
-            answer_single(kind, f32::from_bits(u32::from_le_bytes(bytes)))
-        }
-    }
-}
-
-/// Answers whole records of the given kinds from the front of the requests, while the answers have room.
-pub fn batch(requests: &[u8], answers: &mut [u8], kinds: &[u8]) -> Report {
+/// Answers whole records from the front of the requests, while the answers have room.
+pub fn batch(requests: &[u8], answers: &mut [u8]) -> Report {
     let mut report = Report {
         code: 0,
         records: 0,
         read: 0,
         written: 0,
     };
-    while let Some((&kind, rest)) = requests[report.read..].split_first() {
-        let length = match known_length(kind, kinds) {
-            Some(length) => length,
-            None => return Report { code: 1, ..report },
+    while let Some(&number) = requests.get(report.read) {
+        let Some(row) = row(number) else {
+            return Report { code: 1, ..report };
         };
-        if rest.len() < length {
+        let Some(record) = requests[report.read..].get(..row.kind.request_length()) else {
             return Report { code: 2, ..report };
-        }
-        let answer = answer(kind, &rest[..length]);
+        };
+        let answer = answer(row, record);
         match answers[report.written..].get_mut(..answer.len()) {
             Some(room) => room.copy_from_slice(&answer),
             None => return Report { code: 3, ..report },
         }
         report.records += 1;
-        report.read += 1 + length;
+        report.read += record.len();
         report.written += answer.len();
     }
     report
 }
 
 /// What the program writes: the answers, byte 255 and the stop code.
-pub fn program(requests: &[u8], kinds: &[u8]) -> Vec<u8> {
-    // An answer is at most 6/5 of its request.
-    let mut answers = vec![0; 2 * requests.len()];
-    let report = batch(requests, &mut answers, kinds);
-    answers.truncate(report.written);
+pub fn program(requests: &[u8]) -> Vec<u8> {
+    let room = records(requests).map(|(kind, _)| kind.answer_length());
+    let mut answers = vec![0; room.sum()];
+    let report = batch(requests, &mut answers);
     answers.extend([255, report.code]);
     answers
 }
@@ -151,18 +143,19 @@ mod tests {
         0x83, 0, 0, 0, 0, 0, 0, 0xf0, 0x3f, 0x82, 0, 0, 0, 0, 0, 0, 0, 0, 0x01, 0xff, 0x00,
     ];
 
-    /// A record of each kind, with the answers' lengths.
-    fn mixed() -> (Vec<u8>, Vec<usize>) {
-        let mut requests = Vec::new();
-        for kind in KINDS {
-            requests.push(kind);
-            if body_length(kind) == Some(8) {
-                requests.extend((-2.5f64).to_bits().to_le_bytes());
-            } else {
-                requests.extend((-2.5f32).to_bits().to_le_bytes());
+    /// A record of each kind at -2.5, and where each ends in the requests and in the answers.
+    fn mixed() -> (Vec<u8>, Vec<(usize, usize)>) {
+        let (mut requests, mut ends, mut written) = (Vec::new(), Vec::new(), 0);
+        for kind in kinds() {
+            requests.push(kind.number);
+            match kind.body {
+                8 => requests.extend((-2.5f64).to_bits().to_le_bytes()),
+                _ => requests.extend((-2.5f32).to_bits().to_le_bytes()),
             }
+            written += kind.answer_length();
+            ends.push((requests.len(), written));
         }
-        (requests, vec![9, 10, 9, 9, 6, 5, 5])
+        (requests, ends)
     }
 
     fn report(code: u8, records: usize, read: usize, written: usize) -> Report {
@@ -176,71 +169,75 @@ mod tests {
 
     #[test]
     fn the_whole_case() {
-        assert_eq!(program(&CASE, &KINDS), CASE_ANSWER);
+        assert_eq!(program(&CASE), CASE_ANSWER);
     }
 
     #[test]
     fn eighteen_bytes_of_room() {
         let mut answers = [7; 18];
-        assert_eq!(batch(&CASE, &mut answers, &KINDS), report(3, 1, 9, 9));
+        assert_eq!(batch(&CASE, &mut answers), report(3, 1, 9, 9));
         assert_eq!(answers[..9], CASE_ANSWER[..9]);
         assert_eq!(answers[9..], [7; 9]);
     }
 
     #[test]
     fn empty() {
-        assert_eq!(batch(&[], &mut [], &KINDS), report(0, 0, 0, 0));
-        assert_eq!(program(&[], &KINDS), [255, 0]);
+        assert_eq!(batch(&[], &mut []), report(0, 0, 0, 0));
+        assert_eq!(program(&[]), [255, 0]);
+    }
+
+    #[test]
+    fn an_answer_is_as_long_as_its_row_says() {
+        for kind in kinds() {
+            let row = row(kind.number).unwrap();
+            let record = vec![kind.number; kind.request_length()];
+            let answer = answer(row, &record);
+            assert_eq!(answer.len(), kind.answer_length(), "{}", kind.name);
+            assert_eq!(answer[0], kind.number + 128);
+        }
     }
 
     #[test]
     fn cut_at_each_length() {
-        let (requests, lengths) = mixed();
+        let (requests, ends) = mixed();
         for end in 0..=requests.len() {
-            let (mut records, mut read) = (0, 0);
-            while records < KINDS.len() && read + 1 + body_length(KINDS[records]).unwrap() <= end {
-                read += 1 + body_length(KINDS[records]).unwrap();
-                records += 1;
-            }
+            let records = ends.iter().filter(|(read, _)| *read <= end).count();
+            let (read, written) = records.checked_sub(1).map_or((0, 0), |last| ends[last]);
             let code = if read == end { 0 } else { 2 };
-            let written = lengths[..records].iter().sum();
-            let mut answers = [0; 100];
             assert_eq!(
-                batch(&requests[..end], &mut answers, &KINDS),
+                batch(&requests[..end], &mut vec![0; 2 * requests.len()]),
                 report(code, records, read, written)
             );
+            assert_eq!(super::records(&requests[..end]).count(), records);
         }
     }
 
     #[test]
     fn unknown_kind_is_tested_first() {
-        for kind in (0..=255).filter(|k| !KINDS.contains(k)) {
+        for kind in (0..=255).filter(|&k| kind_of(k).is_none()) {
             let mut requests = CASE.to_vec();
             requests.push(kind);
-            assert_eq!(batch(&requests, &mut [0; 19], &KINDS), report(1, 2, 18, 19));
-            assert_eq!(batch(&[kind], &mut [], &KINDS), report(1, 0, 0, 0));
+            assert_eq!(batch(&requests, &mut [0; 19]), report(1, 2, 18, 19));
+            assert_eq!(batch(&[kind], &mut []), report(1, 0, 0, 0));
+        }
+        for kind in [0, 200] {
+            assert!(kind_of(kind).is_none());
         }
         // an incomplete body before the room
-        assert_eq!(batch(&[1, 0], &mut [], &KINDS), report(2, 0, 0, 0));
+        assert_eq!(batch(&[1, 0], &mut []), report(2, 0, 0, 0));
     }
 
     #[test]
     fn never_half_an_answer() {
-        let (requests, lengths) = mixed();
-        let whole = program(&requests, &KINDS);
+        let (requests, ends) = mixed();
+        let whole = program(&requests);
         for room in 0..=whole.len() {
             let mut answers = vec![7; room];
-            let got = batch(&requests, &mut answers, &KINDS);
-            let mut records = 0;
-            while records < lengths.len() && lengths[..=records].iter().sum::<usize>() <= room {
-                records += 1;
-            }
-            let written = lengths[..records].iter().sum();
-            let code = if records == lengths.len() { 0 } else { 3 };
-            assert_eq!(
-                (got.code, got.records, got.written),
-                (code, records, written)
-            );
+            let got = batch(&requests, &mut answers);
+            let records = ends.iter().filter(|(_, written)| *written <= room).count();
+            let (read, written) = records.checked_sub(1).map_or((0, 0), |last| ends[last]);
+            let code = if records == ends.len() { 0 } else { 3 };
+            assert_eq!(got, report(code, records, read, written));
             assert_eq!(answers[..written], whole[..written]);
             assert!(answers[written..].iter().all(|&b| b == 7));
         }
@@ -250,11 +247,11 @@ mod tests {
     fn signs_and_nans() {
         // lgamma_r(-0) = (+inf, -1)
         let minus_zero = [2, 0, 0, 0, 0, 0, 0, 0, 0x80];
-        assert_eq!(program(&minus_zero, &KINDS)[7..10], [0xf0, 0x7f, 255]);
+        assert_eq!(program(&minus_zero)[7..10], [0xf0, 0x7f, 255]);
         // tgamma(-1) = NaN, by its one pattern
         let minus_one = [1, 0, 0, 0, 0, 0, 0, 0xf0, 0xbf];
         assert_eq!(
-            program(&minus_one, &KINDS)[1..9],
+            program(&minus_one)[1..9],
             0x7ff8_0000_0000_0000u64.to_le_bytes()
         );
     }

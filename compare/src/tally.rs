@@ -1,5 +1,7 @@
-//! The count of what was compared and what differs, with the progress on standard error.
+//! The count of what was compared and what differs, with the progress on standard error where that is a
+//! terminal.
 
+use std::io::{self, IsTerminal};
 use std::time::{Duration, Instant};
 
 /// The differences that are printed whole.
@@ -9,6 +11,8 @@ const SHOWN: u64 = 20;
 pub struct Tally {
     pub compared: u64,
     pub differ: u64,
+    /// What an earlier run compared and noted as alike, and this one only read.
+    pub noted: u64,
 }
 
 impl Tally {
@@ -29,8 +33,17 @@ impl Tally {
         if self.differ > SHOWN {
             println!("{} more differ", self.differ - SHOWN);
         }
-        println!("{} compared, {} differ", self.compared, self.differ);
+        println!("{}", self.sum());
         u8::from(self.differ > 0)
+    }
+
+    /// `N compared, M differ`, and `, K noted earlier` where there are notes.
+    fn sum(&self) -> String {
+        let mut sum = format!("{} compared, {} differ", self.compared, self.differ);
+        if self.noted > 0 {
+            sum += &format!(", {} noted earlier", self.noted);
+        }
+        sum
     }
 }
 
@@ -40,6 +53,7 @@ pub struct Progress {
     total: u64,
     start: Instant,
     said: Instant,
+    is_seen: bool,
 }
 
 impl Progress {
@@ -50,6 +64,7 @@ impl Progress {
             total,
             start,
             said: start,
+            is_seen: io::stderr().is_terminal(),
         }
     }
 
@@ -67,11 +82,28 @@ impl Progress {
     }
 
     fn say(&self, done: u64) {
+        if !self.is_seen {
+            return;
+        }
         let seconds = self.start.elapsed().as_secs_f64();
         let rate = done as f64 / seconds.max(1e-9);
         eprintln!(
             "{}: {done} of {}, {seconds:.1} s, {rate:.0} a second",
             self.what, self.total
         );
+    }
+}
+
+#[cfg(test)]
+mod tests {
+    use super::*;
+
+    #[test]
+    fn what_was_only_read_is_not_compared() {
+        let mut tally = Tally::default();
+        tally.count(true, || unreachable!());
+        assert_eq!(tally.sum(), "1 compared, 0 differ");
+        tally.noted += 5;
+        assert_eq!(tally.sum(), "1 compared, 0 differ, 5 noted earlier");
     }
 }

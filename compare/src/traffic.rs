@@ -1,8 +1,9 @@
 //! Streams of requests made from a seed, whole and damaged.
 
+use crate::kinds::{kinds, Kind};
 use crate::patterns::{Patterns, Width};
 use crate::random::Random;
-use crate::stream::{body_length, KINDS};
+use crate::stream::kind_of;
 
 /// Streams of requests of every kind.
 pub struct Streams {
@@ -18,15 +19,19 @@ impl Streams {
         }
     }
 
+    /// The patterns as wide as a kind's argument.
+    fn patterns(&self, kind: &Kind) -> &Patterns {
+        match kind.body {
+            8 => &self.doubles,
+            _ => &self.singles,
+        }
+    }
+
     /// Every kind at every systematic pattern of its width.
     pub fn systematic(&self) -> Vec<u8> {
         let mut stream = Vec::new();
-        for kind in KINDS {
-            let patterns = match body_length(kind) {
-                Some(8) => &self.doubles,
-                _ => &self.singles,
-            };
-            for &bits in &patterns.systematic {
+        for kind in kinds() {
+            for &bits in &self.patterns(kind).systematic {
                 push_request(&mut stream, kind, bits);
             }
         }
@@ -37,12 +42,8 @@ impl Streams {
     pub fn random(&self, random: &mut Random, count: u64) -> Vec<u8> {
         let mut stream = Vec::new();
         for _ in 0..count {
-            let kind = KINDS[random.below(KINDS.len() as u64) as usize];
-            let patterns = match body_length(kind) {
-                Some(8) => &self.doubles,
-                _ => &self.singles,
-            };
-            push_request(&mut stream, kind, patterns.random(random));
+            let kind = &kinds()[random.below(kinds().len() as u64) as usize];
+            push_request(&mut stream, kind, self.patterns(kind).random(random));
         }
         stream
     }
@@ -67,21 +68,19 @@ impl Streams {
     }
 }
 
+/// A byte that is no kind's. A kind is below 128.
 fn unknown_kind(random: &mut Random) -> u8 {
-    let kind = random.next() as u8;
-    if KINDS.contains(&kind) {
-        kind + 128
-    } else {
-        kind
+    let byte = random.next() as u8;
+    match kind_of(byte) {
+        Some(_) => byte + 128,
+        None => byte,
     }
 }
 
-/// Appends the request of a known kind at a pattern.
-fn push_request(stream: &mut Vec<u8>, kind: u8, bits: u64) {
-    stream.push(kind);
-    if let Some(length) = body_length(kind) {
-        stream.extend(&bits.to_le_bytes()[..length]);
-    }
+/// Appends the request of a kind at a pattern.
+fn push_request(stream: &mut Vec<u8>, kind: &Kind, bits: u64) {
+    stream.push(kind.number);
+    stream.extend(&bits.to_le_bytes()[..kind.body]);
 }
 
 #[cfg(test)]
