@@ -10,6 +10,7 @@ mod port;
 mod powers;
 mod random;
 mod sample;
+mod stored;
 mod stream;
 mod tally;
 mod traffic;
@@ -31,6 +32,7 @@ const USAGE: &str = "usage:
                                      broken off goes on where it was
   compare stream SEED COUNT [FILE]   COUNT requests of mixed kinds beside the systematic ones, and
                                      damaged streams
+  compare stored                     the lists and streams that the gate replays, answer by answer
   compare constants [DIR]            every constant of the Rust in DIR, with the definitions and the code
   compare sample SEED STDIN STDOUT   writes a list of requests to leaves, and the Rust's answers
   compare requests SEED COUNT        writes COUNT requests of mixed kinds
@@ -66,6 +68,7 @@ fn run(words: &[&str]) -> io::Result<u8> {
         ["stream", seed, count, file @ ..] => {
             compare_streams(number(seed)?, number(count)?, &program("answers", file)?)
         }
+        ["stored"] => stored::compare(),
         ["constants", libm @ ..] => compare_constants(libm),
         ["sample", seed, requests, answers] => {
             let list = sample::requests(number(seed)?);
@@ -237,29 +240,7 @@ fn compare_constants(libm: &[&str]) -> io::Result<u8> {
     Ok(tally.finish())
 }
 
-/// Compares the answers to a stream record by record, and the end behind them.
 fn compare_stream(requests: &[u8], program: &Program, tally: &mut Tally) -> io::Result<()> {
-    compare_answers(requests, &program.exchange(requests)?, tally);
+    stream::compare(requests, &program.exchange(requests)?, tally);
     Ok(())
-}
-
-/// Compares what a program wrote for a stream with what the Rust answers.
-fn compare_answers(requests: &[u8], got: &[u8], tally: &mut Tally) {
-    let want = stream::program(requests);
-    let (mut read, mut written) = (0, 0);
-    for (kind, request) in stream::records(requests) {
-        let end = written + kind.answer_length();
-        let answer = &want[written..end];
-        let port = got.get(written..end).unwrap_or(&[]);
-        tally.count(port == answer, || {
-            format!("request {request:02x?}: port {port:02x?}, Rust {answer:02x?}")
-        });
-        read += request.len();
-        written = end;
-    }
-    let (port, rust) = (got.get(written..).unwrap_or(&[]), &want[written..]);
-    tally.count(port == rust, || {
-        let front = &requests[read..requests.len().min(read + 9)];
-        format!("end of a stream at {front:02x?}: port {port:02x?}, Rust {rust:02x?}")
-    });
 }

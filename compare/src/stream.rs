@@ -3,6 +3,7 @@
 
 use crate::kinds::{kinds, Kind};
 use crate::leaves::{bits_of, bits_of_f32};
+use crate::tally::Tally;
 use std::sync::OnceLock;
 
 /// What a batch reports.
@@ -130,6 +131,28 @@ pub fn program(requests: &[u8]) -> Vec<u8> {
     let report = batch(requests, &mut answers);
     answers.extend([255, report.code]);
     answers
+}
+
+/// Compares what the port wrote for a stream with what the Rust answers, record by record, and the end
+/// behind them.
+pub fn compare(requests: &[u8], got: &[u8], tally: &mut Tally) {
+    let want = program(requests);
+    let (mut read, mut written) = (0, 0);
+    for (kind, request) in records(requests) {
+        let end = written + kind.answer_length();
+        let answer = &want[written..end];
+        let port = got.get(written..end).unwrap_or(&[]);
+        tally.count(port == answer, || {
+            format!("request {request:02x?}: port {port:02x?}, Rust {answer:02x?}")
+        });
+        read += request.len();
+        written = end;
+    }
+    let (port, rust) = (got.get(written..).unwrap_or(&[]), &want[written..]);
+    tally.count(port == rust, || {
+        let front = &requests[read..requests.len().min(read + 9)];
+        format!("end of a stream at {front:02x?}: port {port:02x?}, Rust {rust:02x?}")
+    });
 }
 
 #[cfg(test)]

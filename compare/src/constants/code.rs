@@ -33,6 +33,8 @@ pub struct Code {
     /// Float literals in functions, with their signs; patterns of `from_bits`; infinity; lengths of lists
     /// as floats.
     pub literals: Vec<(usize, Value)>,
+    /// The names that patterns of `from_bits` have in functions.
+    pub names: Vec<(String, Value)>,
     /// Hexadecimal whole numbers, and shifted ones as the number that they are.
     pub words: Vec<(usize, u64)>,
     /// Decimal whole numbers from 10 on that no shift is by.
@@ -166,6 +168,10 @@ fn number(tokens: &[Token], at: usize, code: &mut Code) -> usize {
             };
             if let Some(bits) = whole(digits) {
                 code.literals.push((line, Value::Pattern(width, bits)));
+                if at > 1 && tokens[at - 1].is("=") {
+                    let name = tokens[at - 2].text.clone();
+                    code.names.push((name, Value::Pattern(width, bits)));
+                }
             }
             return 6;
         }
@@ -237,6 +243,8 @@ mod tests {
         );
         let literals: Vec<_> = code.literals.iter().map(|l| l.1.to_string()).collect();
         assert_eq!(literals, ["0x7FE0000000000000", "2.0", "-0.5", "1.", "inf"]);
+        assert_eq!(code.names.len(), 1);
+        assert_eq!(code.names[0].0, "big");
         let words: Vec<_> = code.words.iter().map(|w| w.1).collect();
         assert_eq!(words, [0x3C90_0000, 0x7FFF_FFFF]);
         let counts: Vec<_> = code.counts.iter().map(|c| c.1).collect();

@@ -3,7 +3,7 @@
 use super::code::Code;
 use super::lists::{Place, Places};
 use super::ported::{Group, Otherwise, BY_VALUE, MASKS, SAID_OTHERWISE};
-use super::specs::{Definition, Item, Specs};
+use super::specs::{self, Definition, Item, Specs};
 use super::value::Value;
 use crate::tally::Tally;
 
@@ -65,6 +65,7 @@ impl Comparison<'_> {
 
     fn definition(&mut self, file: &str, definition: &Definition, wanted: Option<Vec<Place>>) {
         let name = &definition.name;
+        literal(file, definition, self.tally);
         if let Some(places) = &wanted {
             let is_same = places.len() == definition.items.len();
             self.tally.count(is_same, || {
@@ -105,11 +106,21 @@ impl Comparison<'_> {
         self.tally.count(literal.is_same(value), || {
             format!("{file}:{line}: the comment says {literal}, which is not {value}")
         });
-        if let (Some(name), Some(place)) = (&item.named, place) {
-            self.tally.count(place.is_named(name), || {
-                format!("{file}:{line}: the comment says {name}, and it is the Rust's {place}")
-            });
-        }
+        let Some(name) = &item.named else { return };
+        let is_named = match place {
+            Some(place) => place.is_named(name),
+            None => self.is_named_literal(name, value),
+        };
+        self.tally.count(is_named, || match place {
+            Some(place) => format!("{file}:{line}: the comment says {name}, and it is {place}"),
+            None => format!("{file}:{line}: the Rust's {name} is not {value}"),
+        });
+    }
+
+    /// Whether a name in one of the Rust's functions stands for a pattern.
+    fn is_named_literal(&self, name: &str, value: &Value) -> bool {
+        let mut named = self.rust.names.iter().filter(|(own, _)| own == name);
+        named.any(|(_, literal)| literal.is_same(value))
     }
 
     /// Every constant of the Rust has a place that was looked at, and every literal stands somewhere.
@@ -201,6 +212,20 @@ impl Comparison<'_> {
         }
         let values: Vec<&Value> = values.iter().collect();
         self.all_found(&places, &values, self.group.code);
+    }
+}
+
+/// A definition or a field that has a literal for its name is that number, and its comment says so.
+pub fn literal(file: &str, definition: &Definition, tally: &mut Tally) {
+    let Some(literal) = specs::literal_name(&definition.name) else {
+        return;
+    };
+    let values = definition.items.iter().map(|item| &item.value);
+    let comments = definition.items.iter().filter_map(|i| i.literal.as_ref());
+    for value in values.chain(comments) {
+        tally.count(literal.is_same(value), || {
+            format!("{file}:{}: {literal} is not {value}", definition.line)
+        });
     }
 }
 

@@ -16,7 +16,7 @@ use crate::tally::Tally;
 use code::Code;
 use comparison::{items, Comparison};
 use ported::{Group, GROUPS, LITERALS};
-use specs::Specs;
+use specs::{Item, Specs};
 use std::fs;
 use std::io;
 use std::path::Path;
@@ -67,9 +67,10 @@ pub fn compare(libm: &Path, repository: &Path, tally: &mut Tally) -> io::Result<
         both.definitions(&specs);
         both.code(&code);
     }
-    for file in LITERALS {
-        let specs = specs::read(&text(&repository.join("crates").join(file))?);
-        literals(file, &specs, tally);
+    for (file, specs) in read_all(repository, &LITERALS, specs::read)? {
+        for definition in &specs.definitions {
+            comparison::literal(file, definition, tally);
+        }
     }
     every_file_is_known(repository, tally)?;
     Ok(found)
@@ -122,26 +123,11 @@ fn read_rust(libm: &Path, group: &Group) -> io::Result<Code> {
         let one = code::read(&text(&libm.join("src/math").join(file))?);
         all.constants.extend(one.constants);
         all.literals.extend(one.literals);
+        all.names.extend(one.names);
         all.words.extend(one.words);
         all.counts.extend(one.counts);
     }
     Ok(all)
-}
-
-/// Where the literals have their names, each is the number that its name and its comment say.
-fn literals(file: &str, specs: &Specs, tally: &mut Tally) {
-    for definition in &specs.definitions {
-        let Some(literal) = specs::literal_name(&definition.name) else {
-            continue;
-        };
-        let values = definition.items.iter().map(|item| &item.value);
-        let comments = definition.items.iter().filter_map(|i| i.literal.as_ref());
-        for value in values.chain(comments) {
-            tally.count(literal.is_same(value), || {
-                format!("{file}:{}: {literal} is not {value}", definition.line)
-            });
-        }
-    }
 }
 
 /// No definition of a ported crate has patterns and is in no group.
@@ -169,7 +155,7 @@ fn every_file_is_known(repository: &Path, tally: &mut Tally) -> io::Result<()> {
                 path.file_name().unwrap().to_string_lossy()
             );
             let specs = [("", specs::read(&text(&path)?))];
-            let is_known = known.contains(&file.as_str()) || items(&specs).next().is_none();
+            let is_known = known.contains(&file.as_str()) || !items(&specs).any(Item::is_pattern);
             tally.count(is_known, || {
                 format!("{file} has patterns, and no Rust to compare them with")
             });

@@ -14,6 +14,10 @@ pub struct Item {
 }
 
 impl Item {
+    pub fn is_pattern(&self) -> bool {
+        matches!(self.value, Value::Pattern(..))
+    }
+
     /// A number with no comment beside it.
     pub fn plain(line: usize, value: Value) -> Item {
         let (named, literal) = (None, None);
@@ -130,27 +134,50 @@ pub fn literal_name(name: &str) -> Option<Value> {
     is_literal.then(|| Value::Decimal(format!("{whole}.{part}")))
 }
 
-/// The items of a line with what its comment says: for each one a literal, and before it a name where it
-/// has one. A comment with another number of literals says nothing of them.
+/// The items of a line with what its comment says: for each pattern a literal, and before it a name where
+/// it has one. A comment with another number of literals says nothing of them.
 fn with_comment(mut items: Vec<Item>, comment: &str) -> Vec<Item> {
     let mut said = Vec::new();
     let mut name = None;
     for word in comment.split(|c: char| c.is_whitespace() || ",;".contains(c)) {
-        let is_literal = word.contains('.') && word.parse::<f64>().is_ok();
-        if is_literal {
-            said.push((name.take(), Value::Decimal(word.to_string())));
-        } else {
-            name =
-                Some(word.to_string()).filter(|w| w.starts_with(|c: char| c.is_ascii_uppercase()));
+        match literal_in(word) {
+            Some(literal) => said.push((name.take(), literal)),
+            None => name = Some(word.to_string()).filter(|word| is_name(word)),
         }
     }
-    if said.len() == items.len() {
-        for (item, (named, literal)) in items.iter_mut().zip(said) {
+    let mut patterns: Vec<&mut Item> = items.iter_mut().filter(|i| i.is_pattern()).collect();
+    if said.len() == patterns.len() {
+        for (item, (named, literal)) in patterns.iter_mut().zip(said) {
             item.named = named;
             item.literal = Some(literal);
         }
     }
     items
+}
+
+/// A literal as the Rust writes it, or the pattern of its `from_bits`.
+fn literal_in(word: &str) -> Option<Value> {
+    let bits = |width, text: &str| {
+        let digits = text.strip_suffix(')')?.replace('_', "");
+        let bits = u64::from_str_radix(digits.strip_prefix("0x")?, 16).ok()?;
+        Some(Value::Pattern(width, bits))
+    };
+    if let Some(text) = word.strip_prefix("f64::from_bits(") {
+        return bits(Width::Double, text);
+    }
+    if let Some(text) = word.strip_prefix("f32::from_bits(") {
+        return bits(Width::Single, text);
+    }
+    let is_literal = word.contains('.') && word.parse::<f64>().is_ok();
+    is_literal.then(|| Value::Decimal(word.to_string()))
+}
+
+/// X, X1, X[1], X_H, x1p54
+fn is_name(word: &str) -> bool {
+    word.starts_with(|c: char| c.is_ascii_alphabetic())
+        && word
+            .chars()
+            .all(|c| c.is_ascii_alphanumeric() || "_[]".contains(c))
 }
 
 #[cfg(test)]
@@ -170,7 +197,10 @@ erf64 = record {
   one = bits 0x3FF0000000000000;
   zero = bits 0;
   ERX = bits 0x3FEB0AC160000000;  -- ERX 8.45062911510467529297e-01
+  x1pUp = bits 0x4350000000000000;  -- x1p54 f64::from_bits(0x4350000000000000)
 }
+
+DP·H k = if k =? 0 then 0·0 else bits 0x3FE2B80340000000  -- DP_H[1] 5.84962487220764160156e-01
 
 sS x =
     let h = x ⊗ bits 0x3F000000 in
@@ -193,8 +223,8 @@ sS x =
         assert_eq!(of("zero"), ["0x0000000000000000"]);
         assert_eq!(of("sS"), ["0x3F000000", "-1.0", "0.5"]);
         assert_eq!(specs.words, [(10, 0x3FEB_0000)]);
-        assert_eq!(specs.counts, [2, 20]);
-        assert_eq!(specs.odd, [(18, "0x3FE".to_string())]);
+        assert_eq!(specs.counts, [0, 2, 20]);
+        assert_eq!(specs.odd, [(21, "0x3FE".to_string())]);
     }
 
     #[test]
@@ -206,7 +236,15 @@ sS x =
             .iter()
             .all(|i| i.literal.as_ref().unwrap().is_same(&i.value)));
         assert_eq!(snum[1].named, None);
-        let erx = specs.definitions.iter().find(|d| d.name == "ERX").unwrap();
-        assert_eq!(erx.items[0].named.as_deref(), Some("ERX"));
+        let last = |name: &str| {
+            let found = specs.definitions.iter().find(|d| d.name == name).unwrap();
+            let item = found.items.last().unwrap();
+            let literal = item.literal.as_ref().unwrap();
+            assert!(literal.is_same(&item.value));
+            item.named.clone().unwrap()
+        };
+        assert_eq!(last("ERX"), "ERX");
+        assert_eq!(last("x1pUp"), "x1p54");
+        assert_eq!(last("DP·H"), "DP_H[1]");
     }
 }
