@@ -2,6 +2,7 @@
 //! stream by the program `answers`.
 
 mod constants;
+mod cuts;
 mod exhaustive;
 mod kinds;
 mod leaves;

@@ -1,6 +1,7 @@
 //! The arguments' patterns: both sides of every cut, every exponent, whole and half numbers, what is
 //! special, and random patterns.
 
+use crate::cuts::{EXP_BOUNDS, GMHALF, HIGH_WORDS, LOG_REDUCTION, LOG_WORDS, SINGLE_CUTS};
 use crate::leaves::Second;
 use crate::random::Random;
 use std::f64::consts::FRAC_PI_4;
@@ -10,78 +11,6 @@ pub enum Width {
     Double,
     Single,
 }
-
-/// The high words that tgamma.rs, lgamma_r.rs, erf.rs and exp.rs test.
-const HIGH_WORDS: [u32; 23] = [
-    0x3b90_0000,
-    0x3c70_0000,
-    0x3c90_0000,
-    0x3e30_0000,
-    0x3fcd_a661,
-    0x3fd0_0000,
-    0x3fd6_2e42,
-    0x3fe7_6944,
-    0x3feb_0000,
-    0x3fec_cccc,
-    0x3ff0_0000,
-    0x3ff0_a2b2,
-    0x3ff3_b4c4,
-    0x3ff4_0000,
-    0x3ffb_b4c3,
-    0x4000_0000,
-    0x4006_db6d,
-    0x4018_0000,
-    0x4020_0000,
-    0x403c_0000,
-    0x4067_0000,
-    0x4086_232b,
-    0x4390_0000,
-];
-
-/// The high words that log.rs tests, and the one behind which its reduction goes to the next exponent.
-const LOG_WORDS: [u32; 3] = [0x0010_0000, LOG_REDUCTION, 0x7ff0_0000];
-const LOG_REDUCTION: u32 = 0x3fe6_a09e;
-
-/// The sizes that lgammaf_r.rs, erff.rs, expf.rs and logf.rs test.
-const SINGLE_CUTS: [u32; 25] = [
-    0x2380_0000,
-    0x3180_0000,
-    0x3500_0000,
-    0x3900_0000,
-    0x3e6d_3308,
-    0x3e80_0000,
-    0x3eb1_7218,
-    0x3f35_04f3,
-    0x3f3b_4a20,
-    0x3f58_0000,
-    0x3f66_6666,
-    0x3f80_0000,
-    0x3f85_1592,
-    0x3f9d_a620,
-    0x3fa0_0000,
-    0x3fdd_a618,
-    0x4000_0000,
-    0x4036_db6d,
-    0x40c0_0000,
-    0x4100_0000,
-    0x41e0_0000,
-    0x42ae_ac50,
-    0x42b1_7218,
-    0x42cf_f1b5,
-    0x5c80_0000,
-];
-
-/// The bound that tgamma.rs compares the size with.
-#[allow(clippy::excessive_precision)]
-const GMHALF: f64 = 5.524680040776729583740234375;
-
-/// The bounds that exp.rs compares with: the sizes at which an answer overflows, is subnormal and is 0.
-#[allow(clippy::excessive_precision)]
-const EXP_BOUNDS: [f64; 3] = [
-    709.782712893383973096,
-    708.39641853226410622,
-    745.13321910194110842,
-];
 
 /// Where exp.rs goes over from one multiple of ln 2 to the next: the size nearest to (k + 1/2) ln 2.
 fn between_multiples(k: u32) -> f64 {
