@@ -41,8 +41,9 @@ impl Comparison<'_> {
         literals.chain(listed).any(|literal| literal.is_same(value))
     }
 
-    /// The definitions have what the Rust has, and nothing else.
-    pub fn definitions(&mut self, specs: &[(&'static str, Specs)]) {
+    /// The definitions have what the Rust has, and nothing else. What is lent to them counts too where
+    /// something of the Rust is looked for.
+    pub fn definitions(&mut self, specs: &[(&'static str, Specs)], lent: &[(&'static str, Specs)]) {
         let mut places = Places::new(self.rust);
         let names = all_names(specs);
         for (file, specs) in specs {
@@ -57,7 +58,8 @@ impl Comparison<'_> {
                 });
             }
         }
-        let values: Vec<&Value> = items(specs).map(|item| &item.value).collect();
+        let all = items(specs).chain(items(lent));
+        let values: Vec<&Value> = all.map(|item| &item.value).collect();
         self.all_found(&places, &values, self.group.specs);
         self.words(specs);
         self.counts(specs);

@@ -55,6 +55,7 @@ pub fn compare(libm: &Path, repository: &Path, tally: &mut Tally) -> io::Result<
     for group in GROUPS {
         let rust = read_rust(libm, group)?;
         let specs = read_all(repository, group.specs, specs::read)?;
+        let lent = read_all(repository, group.lent, specs::read)?;
         let code = read_all(repository, group.code, code::read)?;
         found.take_rust(&rust);
         found.take_specs(&specs);
@@ -64,7 +65,7 @@ pub fn compare(libm: &Path, repository: &Path, tally: &mut Tally) -> io::Result<
             tally: &mut *tally,
         };
         both.own_comments();
-        both.definitions(&specs);
+        both.definitions(&specs, &lent);
         both.code(&code);
     }
     for (file, specs) in read_all(repository, &LITERALS, specs::read)? {

@@ -4,6 +4,8 @@
 pub struct Group {
     pub rust: &'static [&'static str],
     pub specs: &'static [&'static str],
+    /// Definitions of other groups whose constants these use.
+    pub lent: &'static [&'static str],
     pub code: &'static [&'static str],
 }
 
@@ -15,6 +17,7 @@ pub const GROUPS: &[Group] = &[
             "tgamma/specs/Lanczos.antt",
             "sinpi/specs/Sinpi.antt",
         ],
+        lent: &[],
         code: &[
             "tgamma/src/lib.rt",
             "tgamma/src/lanczos.rt",
@@ -24,6 +27,7 @@ pub const GROUPS: &[Group] = &[
     Group {
         rust: &["lgamma_r.rs"],
         specs: &["lgamma/specs/Lgamma64.antt", "sinpi/specs/Sinpi.antt"],
+        lent: &[],
         code: &[
             "lgamma/src/lib.rt",
             "lgamma/src/below2.rt",
@@ -33,11 +37,8 @@ pub const GROUPS: &[Group] = &[
     },
     Group {
         rust: &["lgammaf_r.rs"],
-        specs: &[
-            "lgammaf/specs/Lgammaf.antt",
-            "sinpi/specs/Sinpif.antt",
-            "sinpi/specs/Sinpi.antt",
-        ],
+        specs: &["lgammaf/specs/Lgammaf.antt", "sinpi/specs/Sinpif.antt"],
+        lent: &["sinpi/specs/Sinpi.antt"],
         code: &[
             "lgammaf/src/lib.rt",
             "lgammaf/src/below2.rt",
@@ -48,31 +49,37 @@ pub const GROUPS: &[Group] = &[
     Group {
         rust: &["erf.rs"],
         specs: &["erf/specs/Erf64.antt"],
+        lent: &[],
         code: &["erf/src/lib.rt"],
     },
     Group {
         rust: &["erff.rs"],
         specs: &["erff/specs/Erff.antt"],
+        lent: &[],
         code: &["erff/src/lib.rt"],
     },
     Group {
         rust: &["exp.rs"],
         specs: &["exp/specs/Exp.antt"],
+        lent: &[],
         code: &["exp/src/lib.rt"],
     },
     Group {
         rust: &["expf.rs"],
         specs: &["exp/specs/Expf.antt"],
+        lent: &[],
         code: &["exp/src/single.rt"],
     },
     Group {
         rust: &["log.rs"],
         specs: &["log/specs/Log.antt"],
+        lent: &[],
         code: &["log/src/lib.rt"],
     },
     Group {
         rust: &["logf.rs"],
         specs: &["log/specs/Logf.antt"],
+        lent: &[],
         code: &["log/src/single.rt"],
     },
     Group {
@@ -82,16 +89,19 @@ pub const GROUPS: &[Group] = &[
             "pow_exp/specs/Exp2.antt",
             "pow_log/specs/Log2.antt",
         ],
+        lent: &[],
         code: &["pow/src/lib.rt", "pow_exp/src/lib.rt", "pow_log/src/lib.rt"],
     },
     Group {
         rust: &["k_sin.rs", "k_cos.rs"],
         specs: &["trig/specs/KSin.antt", "trig/specs/KCos.antt"],
+        lent: &[],
         code: &["trig/src/lib.rt"],
     },
     Group {
         rust: &["k_sinf.rs", "k_cosf.rs"],
         specs: &["trig/specs/KSinf.antt", "trig/specs/KCosf.antt"],
+        lent: &[],
         code: &["trig/src/single.rt"],
     },
 ];

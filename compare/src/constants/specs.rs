@@ -155,7 +155,7 @@ fn with_comment(mut items: Vec<Item>, comment: &str) -> Vec<Item> {
     items
 }
 
-/// A literal as the Rust writes it, or the pattern of its `from_bits`.
+/// A literal as the Rust writes it, its infinity, or the pattern of its `from_bits`.
 fn literal_in(word: &str) -> Option<Value> {
     let bits = |width, text: &str| {
         let digits = text.strip_suffix(')')?.replace('_', "");
@@ -167,6 +167,9 @@ fn literal_in(word: &str) -> Option<Value> {
     }
     if let Some(text) = word.strip_prefix("f32::from_bits(") {
         return bits(Width::Single, text);
+    }
+    if ["f64::INFINITY", "f32::INFINITY"].contains(&word) {
+        return Some(Value::Decimal("inf".to_string()));
     }
     let is_literal = word.contains('.') && word.parse::<f64>().is_ok();
     is_literal.then(|| Value::Decimal(word.to_string()))

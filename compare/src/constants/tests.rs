@@ -8,6 +8,7 @@ fn group() -> Group {
     Group {
         rust: &["f.rs"],
         specs: &["F.antt"],
+        lent: &[],
         code: &["f.rt"],
     }
 }
@@ -44,7 +45,7 @@ fn differ(rust: &str, specs: &str, code: &str) -> u64 {
         tally: &mut tally,
     };
     both.own_comments();
-    both.definitions(&[("F.antt", specs::read(specs))]);
+    both.definitions(&[("F.antt", specs::read(specs))], &[]);
     both.code(&[("f.rt", code::read(code))]);
     assert!(tally.compared > 20);
     tally.differ
@@ -132,6 +133,7 @@ fn no_changed_digit_is_missed() {
     let mut tried = 0;
     for group in GROUPS {
         let rust = read_rust(Path::new(env!("LIBM_DIR")), group).unwrap();
+        let lent = read_all(repository, group.lent, specs::read).unwrap();
         for (at, file) in group.specs.iter().enumerate() {
             let whole = text(&repository.join("crates").join(file)).unwrap();
             for place in ends_of_numbers(&whole) {
@@ -149,7 +151,7 @@ fn no_changed_digit_is_missed() {
                     rust: &rust,
                     tally: &mut tally,
                 };
-                both.definitions(&specs);
+                both.definitions(&specs, &lent);
                 assert!(tally.differ > 0, "{file}: byte {place}");
                 tried += 1;
             }
