@@ -1,54 +1,77 @@
 #!/bin/sh
-# run.sh [WRAPPER ...]: proves and builds the library of C entries, builds the host and the test of the entries against it, and runs both,
-# under WRAPPER where one is named (valgrind). On x86-64 by cc; elsewhere by a cross compiler, and under the kit's emulator. A compiler that
-# is missing is installed (by apt-get, as root).
+# run.sh [WRAPPER ...]: proves and builds the library of C entries, builds the host and the tests against it, and runs them, under WRAPPER
+# where one is named (valgrind). Then tries what bin/install installs. host/compiler.sh says what it is compiled and run by.
+# shellcheck disable=SC2086 # cc, cxx, run and flags are words
 set -eu
 cd "$(dirname "$0")/.."
+. host/compiler.sh
+run="$* $run"
 
-die() { printf 'host/run.sh: %s\n' "$*" >&2; exit 2; }
-
-command -v rt >/dev/null || die "rt, the command of the Rattle kit, is not in the PATH"
 rt staticlib entries >&2
-
-# how to compile and run for x86-64
-if [ "$(uname -m)" = x86_64 ]; then
-    compile=${CC:-cc} static='' run=''
-    if ! echo '#include <stdio.h>' | "$compile" -x c -fsyntax-only - 2>/dev/null; then
-        apt-get update >&2
-        apt-get install -y gcc libc6-dev >&2
-    fi
-else
-    compile=x86_64-linux-gnu-gcc static=-static
-    if ! echo 'int main(void) { return 0; }' | "$compile" -static -x c -o /dev/null - 2>/dev/null; then
-        apt-get update >&2
-        apt-get install -y gcc-x86-64-linux-gnu libc6-dev-amd64-cross >&2
-    fi
-    run=$(dirname "$(dirname "$(rt doc)")")/on/$(uname -m)/toolchain/bin/qemu-x86_64
-    [ -x "$run" ] || die "no emulator at $run"
-fi
-
+library=target/staticlib/libentries.a
 out=target/host
 mkdir -p "$out"
-for name in test gateway; do
-    $compile $static -std=c99 -D_POSIX_C_SOURCE=200809L -O2 -Wall -Wextra -Wpedantic -Werror -Iinclude -o "$out/$name" "host/$name.c" target/staticlib/libentries.a
-done
-# the header is C++ too
-printf '#include "raveltrellis.h"\nint main() { return rvt_erf(0) != 0; }\n' >"$out/header.cc"
-if command -v "${CXX:-c++}" >/dev/null; then "${CXX:-c++}" -Wall -Wextra -Werror -Iinclude -fsyntax-only "$out/header.cc"; fi
+awk -f host/kinds.awk kinds.txt >"$out/kinds.h"
 
-# the entries
-set -- "$@" $run
+# the programs
+build() { # NAME OPTION-OR-FILE..
+    name=$1
+    shift
+    $cc $flags -o "$out/$name" "$@" "$library"
+}
+flags="-O2 -Wall -Wextra -Wpedantic -Wconversion -Wshadow -Werror -Iinclude -I$out"
+posix=-D_POSIX_C_SOURCE=200809L
+build test -std=c99 host/test.c
+build header_c99 -std=c99 host/header.c
+build header_c11 -std=c11 host/header.c
+$cxx $flags -std=c++11 -Wold-style-cast -x c++ -c -o "$out/header.o" host/header.c
+build header_cxx "$out/header.o"
+build gateway -std=c99 $posix host/gateway.c
+build flaky_gateway -std=c99 $posix -Wl,--wrap=read,--wrap=write host/gateway.c host/flaky.c
+
+# the entries, and the header from C and C++
 pairs='crates/answers/stdin crates/answers/stdout'
-for name in kinds unknown unknown_high cut long; do pairs="$pairs cases/$name.requests cases/$name.answers"; done
-"$@" "$out/test" $pairs
+for requests in cases/*.requests; do pairs="$pairs $requests ${requests%requests}answers"; done
+$run "$out/test" $pairs || die "the entries"
+for name in header_c99 header_c11 header_cxx; do $run "$out/$name" || die "$name"; done
 
-# the host: its output is the stored one without the closing two bytes, and its status 0 where the stop code is 0
-for requests in crates/answers/stdin cases/*.requests; do
-    answers=$(echo "$requests" | sed 's/requests$/answers/; s/stdin$/stdout/')
-    status=0
-    "$@" "$out/gateway" "$requests" >"$out/said" || status=$?
-    head -c -2 "$answers" | cmp - "$out/said" || die "gateway differs on $requests"
-    code=$(tail -c 1 "$answers" | od -An -tu1 | tr -d ' ')
-    [ "$status" -eq $((code != 0)) ] || die "gateway ended with status $status on $requests, and code $code is stored"
+# the host on the stored streams, also where signals cut its reads and writes short: it writes what is stored but for the closing bytes, and
+# its status and its last line tell the stop code
+ends() { # STATUS WHAT COMMAND..
+    wanted=$1 what=$2 status=0
+    shift 2
+    "$@" 2>"$work/said" || status=$?
+    [ "$status" -eq "$wanted" ] || { cat "$work/said" >&2; die "gateway, $what: status $status, not $wanted"; }
+}
+replay() { # GATEWAY REQUESTS ANSWERS
+    code=$(tail -c 1 "$3" | od -An -tu1 | tr -d ' ')
+    ends $((code != 0)) "$2" $run "$out/$1" "$2" >"$out/answers"
+    head -c -2 "$3" | cmp - "$out/answers" || die "$1 differs on $2"
+    grep -q "(code $code), .* $(wc -c <"$out/answers") bytes written" "$work/said" || die "$1 tells other numbers on $2: $(cat "$work/said")"
+}
+for gateway in gateway flaky_gateway; do
+    replay $gateway crates/answers/stdin crates/answers/stdout
+    for requests in cases/*.requests; do replay $gateway "$requests" "${requests%requests}answers"; done
 done
-echo "host: the entries and the host answer as stored"
+
+# and where something is wrong around it: no such file, a folder, a full device, an output that nobody reads, another command; an unknown kind
+# ends it while the input is still open
+gateway="$run $out/gateway"
+ends 2 "no such file" $gateway "$work/none"
+ends 2 "a folder as input" $gateway "$work"
+ends 2 "a full device" $gateway cases/kinds.requests >/dev/full
+{ ends 2 "a closed pipe" $gateway cases/long.requests && : >"$work/told"; } | :
+[ -e "$work/told" ] || die "gateway, a closed pipe"
+for words in -x 'cases/cut.requests cases/cut.requests'; do
+    ends 2 "gateway $words" $gateway $words
+    grep -q '^usage: ' "$work/said" || die "gateway $words is not told the usage"
+done
+mkfifo "$work/pipe"
+exec 3<>"$work/pipe"
+printf '\0' >&3
+ends 1 "an unknown kind on an open pipe" timeout 60 $gateway <"$work/pipe"
+exec 3>&-
+
+echo "host: the entries, the header and the host answer as stored"
+
+host/install_test.sh

@@ -1,16 +1,17 @@
 /*
- * test REQUESTS ANSWERS ...: holds the C entries to stored answers, pair of files by pair of files
- * (the replayed cases of the program `answers`, made by the Rust), and to a model of the batch written
- * here. Every call is made between guard bytes, and once more in blocks of the very length, where a
- * memory checker sees a step outside. The last line is 'N checks, M failed'.
+ * test REQUESTS ANSWERS ...: holds the C entries to stored streams, pair of files by pair of files, as
+ * the program `answers` is held to them, and to the plan of plan.h. Every call is made between guard
+ * bytes, and batches once more in blocks of the very length, where a memory checker sees a step
+ * outside. The last line is 'N checks, M failed'.
  */
 #include <stdio.h>
 #include <stdlib.h>
 #include <string.h>
 
+#include "plan.h"
 #include "raveltrellis.h"
 
-enum { GUARD = 64, MOST = 1 << 17, BYTES = 256 };
+enum { GUARD = 64, BYTES = 256, LONGEST_REPORT = 2 * RVT_REPORT_BYTES };
 
 static unsigned long checks, failures;
 
@@ -22,125 +23,114 @@ static void check(int good, const char *what, size_t at) {
     printf("failed: %s (at %zu)\n", what, at);
 }
 
-/* ---- the model: the header's table, and what a batch does with it */
-
-static const uint8_t KINDS[] = {1, 2, 3, 4, 17, 19, 20};
-
-static size_t body_length(uint8_t kind) {
-    if (1 <= kind && kind <= 4)
-        return 8;
-    return kind == 17 || kind == 19 || kind == 20 ? 4 : 0;
+static void give_up(const char *what, const char *why) {
+    fprintf(stderr, "test: %s: %s\n", what, why);
+    exit(2);
 }
 
-static uint64_t word(const uint8_t *bytes, size_t width) {
-    uint64_t x = 0;
-    while (width-- > 0)
-        x = x << 8 | bytes[width];
-    return x;
-}
-
-static uint64_t value(uint8_t kind, uint64_t x) {
-    switch (kind) {
-    case 1: return rvt_tgamma(x);
-    case 2: return rvt_lgamma_r_value(x);
-    case 3: return rvt_erf(x);
-    case 4: return rvt_erfc(x);
-    case 17: return rvt_lgammaf_r_value((uint32_t)x);
-    case 19: return rvt_erff((uint32_t)x);
-    default: return rvt_erfcf((uint32_t)x);
-    }
-}
-
-static int has_sign(uint8_t kind) { return kind == 2 || kind == 17; }
-
-static int sign(uint8_t kind, uint64_t x) { return kind == 2 ? rvt_lgamma_r_sign(x) : rvt_lgammaf_r_sign((uint32_t)x); }
-
-static size_t answer(uint8_t *to, uint8_t kind, const uint8_t *body) {
-    size_t width = body_length(kind);
-    uint64_t x = word(body, width), y = value(kind, x);
-    to[0] = (uint8_t)(kind + 128);
-    for (size_t i = 0; i < width; i++)
-        to[1 + i] = (uint8_t)(y >> 8 * i);
-    if (!has_sign(kind))
-        return 1 + width;
-    to[1 + width] = sign(kind, x) == 1 ? 1 : 255;
-    return 2 + width;
-}
-
-struct report {
-    uint64_t code, records, read, written;
-};
-
-static struct report model(const uint8_t *requests, size_t length, uint8_t *answers, size_t room) {
-    struct report r = {RVT_DONE, 0, 0, 0};
-    uint8_t one[16];
-    while (r.read < length) {
-        uint8_t kind = requests[r.read];
-        size_t body = body_length(kind);
-        if (body == 0) {
-            r.code = RVT_UNKNOWN;
-            break;
-        }
-        if (length - r.read - 1 < body) {
-            r.code = RVT_CUT;
-            break;
-        }
-        size_t size = answer(one, kind, requests + r.read + 1);
-        if (room - r.written < size) {
-            r.code = RVT_FULL;
-            break;
-        }
-        memcpy(answers + r.written, one, size);
-        r.records++;
-        r.read += 1 + body;
-        r.written += size;
-    }
-    return r;
-}
-
-/* ---- a call between guard bytes */
+/* ---- calls between guard bytes */
 
 typedef uint64_t entry(const uint8_t *, size_t, uint8_t *, size_t);
 
-static uint8_t requests_block[MOST + 2 * GUARD], answers_block[MOST + 2 * GUARD], wanted[MOST + 2 * GUARD];
+static entry *const ENTRIES[NUMBERS] = {rvt_batch_code, rvt_batch_records, rvt_batch_read, rvt_batch_written};
 
-static void call(entry *batch, uint64_t number, const uint8_t *requests, size_t length, size_t room, uint8_t fill,
-                 const char *what) {
-    memset(requests_block, 0xA5, length + 2 * GUARD);
-    memcpy(requests_block + GUARD, requests, length);
+/* The requests of the calls, and beside them as they have to stay; the lent answers and report. */
+static uint8_t requests_block[MOST + 2 * GUARD], requests_copy[MOST + 2 * GUARD];
+static uint8_t answers_block[2 * MOST + 2 * GUARD], report_block[LONGEST_REPORT + 2 * GUARD];
+static uint8_t *const requests = requests_block + GUARD, *const answers = answers_block + GUARD;
+static uint8_t *const report = report_block + GUARD;
+static size_t length;
+
+static void ask(const uint8_t *bytes, size_t count) {
+    length = count;
+    memset(requests_block, 0xA5, count + 2 * GUARD);
+    memcpy(requests, bytes, count);
+    memcpy(requests_copy, requests_block, count + 2 * GUARD);
+}
+
+static int all(const uint8_t *bytes, size_t count, uint8_t fill) {
+    return count == 0 || (bytes[0] == fill && memcmp(bytes, bytes + 1, count - 1) == 0);
+}
+
+/* A block of `size` bytes between guards begins with the `count` bytes of `front`, and the rest is as it was lent. */
+static int holds(const uint8_t *block, size_t size, uint8_t fill, const uint8_t *front, size_t count) {
+    return all(block, GUARD, fill) && memcmp(block + GUARD, front, count) == 0 &&
+           all(block + GUARD + count, size - count + GUARD, fill);
+}
+
+/* The answers and the report after a call: so many bytes of either are new, and the requests stand. */
+static void look(const struct plan *p, size_t room, size_t size, uint8_t fill, const uint8_t *told, size_t written,
+                 size_t count) {
+    check(holds(answers_block, room, fill, p->answers, written), "the answers, and nothing else, are written", room);
+    check(holds(report_block, size, fill, told, count), "the report, and nothing else, is written", size);
+    check(memcmp(requests_block, requests_copy, length + 2 * GUARD) == 0, "the requests stay as they are", room);
+}
+
+static void lend(size_t room, size_t size, uint8_t fill) {
     memset(answers_block, fill, room + 2 * GUARD);
-    check(batch(requests_block + GUARD, length, answers_block + GUARD, room) == number, what, room);
-    check(memcmp(answers_block, wanted, room + 2 * GUARD) == 0, "answers, and nothing else, are written", room);
-    check(memcmp(requests_block + GUARD, requests, length) == 0, "the requests stay as they are", room);
+    memset(report_block, fill, size + 2 * GUARD);
+}
+
+/* One of the four entries that give a number. */
+static void call_one(const struct plan *p, size_t room, uint8_t fill, int number) {
+    struct did d = at_room(p, room);
+    lend(room, 0, fill);
+    check(ENTRIES[number](requests, length, answers, room) == d.number[number], "one number", room);
+    look(p, room, 0, fill, report, d.number[WRITTEN], 0);
+}
+
+/* The batch in one call, with a report of `size` bytes. */
+static void call(const struct plan *p, size_t room, size_t size, uint8_t fill) {
+    struct did d = at_room(p, room);
+    uint8_t told[RVT_REPORT_BYTES];
+    int good = size == sizeof told;
+    put(told, 8, d.number[DONE]);
+    put(told + 8, 8, d.number[READ]);
+    put(told + 16, 8, d.number[WRITTEN]);
+    lend(room, size, fill);
+    uint64_t code = rvt_batch(requests, length, answers, room, report, size);
+    check(code == (good ? d.number[CODE] : RVT_REPORT_LENGTH), "code", room);
+    look(p, room, size, fill, told, good ? d.number[WRITTEN] : 0, good ? sizeof told : 0);
+}
+
+static uint8_t *block(size_t count) {
+    uint8_t *bytes = malloc(count);
+    if (bytes == NULL && count > 0)
+        give_up("a block", "no memory");
+    return bytes;
 }
 
 /* The same in blocks of the very length. */
-static void call_exactly(uint64_t code, const uint8_t *requests, size_t length, size_t room) {
-    uint8_t *in = malloc(length), *out = malloc(room);
+static void call_exactly(const struct plan *p, size_t room) {
+    uint8_t *in = block(length), *out = block(room), *told = block(RVT_REPORT_BYTES);
     if (length > 0)
         memcpy(in, requests, length);
-    if (room > 0)
-        memset(out, 0, room);
-    check(rvt_batch_code(in, length, out, room) == code, "code in blocks of the very length", room);
+    check(rvt_batch(in, length, out, room, told, RVT_REPORT_BYTES) == at_room(p, room).number[CODE],
+          "code in blocks of the very length", room);
     free(in);
     free(out);
+    free(told);
 }
 
-/* All four entries on one batch, over two fillings of the answer buffer. */
-static void batch(const uint8_t *requests, size_t length, size_t room) {
-    for (int fill = 0x55; fill <= 0xAA; fill += 0x55) {
-        memset(wanted, fill, room + 2 * GUARD);
-        struct report r = model(requests, length, wanted + GUARD, room);
-        call(rvt_batch_code, r.code, requests, length, room, (uint8_t)fill, "code");
-        call(rvt_batch_records, r.records, requests, length, room, (uint8_t)fill, "records");
-        call(rvt_batch_read, r.read, requests, length, room, (uint8_t)fill, "read");
-        call(rvt_batch_written, r.written, requests, length, room, (uint8_t)fill, "written");
-        if (fill == 0x55)
-            call_exactly(r.code, requests, length, room);
-    }
+/* A batch by all entries, over two fillings of what is lent. */
+static void batch(const struct plan *p, size_t room) {
+    for (int i = 0; i < 2 * NUMBERS; i++)
+        call_one(p, room, i % 2 == 0 ? 0x55 : 0xAA, i / 2);
+    call(p, room, RVT_REPORT_BYTES, 0x55);
+    call(p, room, RVT_REPORT_BYTES, 0xAA);
+    call_exactly(p, room);
 }
 
-/* ---- the cases */
+/* The same in less time: the entries take turns from room to room. */
+static void quick_batch(const struct plan *p, size_t room, size_t turn) {
+    uint8_t fill = turn % 2 == 0 ? 0x55 : 0xAA;
+    call_one(p, room, fill, (int)(turn / 2 % NUMBERS));
+    call(p, room, RVT_REPORT_BYTES, fill);
+    if (turn % 16 == 0)
+        call_exactly(p, room);
+}
+
+/* ---- the stored streams */
 
 static size_t load(const char *name, uint8_t *to) {
     FILE *file = fopen(name, "rb");
@@ -148,85 +138,169 @@ static size_t load(const char *name, uint8_t *to) {
         perror(name);
         exit(2);
     }
-    size_t length = fread(to, 1, MOST, file);
+    size_t count = fread(to, 1, MOST, file);
+    if (ferror(file))
+        give_up(name, "cannot be read");
+    if (count == MOST && fgetc(file) != EOF)
+        give_up(name, "longer than the test takes");
     fclose(file);
-    return length;
+    return count;
 }
 
-/* Each function's entry against the stored answers, and the batch on all of the requests: the answers
- * are those stored but for the closing byte 255 and the stop code. */
-static void stored(const uint8_t *requests, size_t length, const uint8_t *answers, size_t answers_length) {
-    for (size_t read = 0, at = 0; at + 2 < answers_length;) {
-        uint8_t kind = requests[read];
-        size_t width = body_length(kind);
-        uint64_t x = word(requests + read + 1, width);
-        check(value(kind, x) == word(answers + at + 1, width), "a function's entry", read);
-        if (has_sign(kind))
-            check(sign(kind, x) == (answers[at + 1 + width] == 1 ? 1 : -1), "a log-gamma's sign", read);
-        read += 1 + width;
-        at += 1 + width + (size_t)has_sign(kind);
+/* The plan, and so each function's entry, has the stored answers; they close with byte 255 and the stop code. */
+static void stored(const struct plan *p, const uint8_t *told, size_t count) {
+    if (count < 2)
+        give_up("the answers", "no closing bytes");
+    check(p->written[p->records] == count - 2, "as many bytes as stored", count);
+    check(memcmp(p->answers, told, count - 2) == 0, "the stored answers", count);
+    check(told[count - 2] == 255 && told[count - 1] == p->code, "the stored stop code", count);
+}
+
+/* One record of each kind, as the streams have them. */
+struct sample {
+    uint8_t bytes[RVT_LONGEST_REQUEST * KIND_COUNT];
+    size_t count, kinds;
+    int has[BYTES];
+};
+
+static void take_samples(struct sample *s, const struct plan *p) {
+    for (size_t n = 0; n < p->records; n++) {
+        size_t at = p->read[n], size = p->read[n + 1] - at;
+        if (s->has[requests[at]]++ > 0)
+            continue;
+        memcpy(s->bytes + s->count, requests + at, size);
+        s->count += size;
+        s->kinds++;
     }
-    uint64_t written = rvt_batch_written(requests, length, answers_block, answers_length - 2);
-    check(written == answers_length - 2, "all is written", length);
-    check(memcmp(answers_block, answers, answers_length - 2) == 0, "the stored answers", length);
-    check(rvt_batch_code(requests, length, answers_block, answers_length - 2) == answers[answers_length - 1],
-          "the stored stop code", length);
-    batch(requests, length, answers_length - 2);
 }
 
 /* Every room from none to more than enough, byte by byte. */
-static void every_room(const uint8_t *requests, size_t length) {
-    for (size_t room = 0; room <= 2 * length + 1; room++)
-        batch(requests, length, room);
+static void every_room(const struct plan *p) {
+    size_t most = p->written[p->records] + RVT_LONGEST_ANSWER;
+    for (size_t room = 0; room <= most; room++)
+        if (most < 200)
+            batch(p, room);
+        else
+            quick_batch(p, room, room);
 }
 
-/* Every length of cut requests, byte by byte, in steps of 7 of the room. */
-static void every_cut(const uint8_t *requests, size_t length) {
-    for (size_t cut = 0; cut <= length; cut++)
-        for (size_t room = 0; room <= 2 * length + 1; room += 7)
-            batch(requests, cut, room);
+static void stream(const char *requests_name, const char *answers_name, struct sample *s) {
+    static uint8_t bytes[MOST], told[MOST];
+    ask(bytes, load(requests_name, bytes));
+    const struct plan *p = plan(requests, length);
+    stored(p, told, load(answers_name, told));
+    take_samples(s, p);
+    batch(p, p->written[p->records]);
+    if (length < 4096)
+        every_room(p);
 }
 
-/* Every byte of the requests replaced in turn, and requests of nothing but noise. */
-static void damaged(const uint8_t *requests, size_t length) {
-    uint8_t copy[256], noise[256];
-    for (size_t at = 0; at < length; at++)
-        for (int value = 0; value < BYTES; value++) {
-            memcpy(copy, requests, length);
-            copy[at] = (uint8_t)value;
-            batch(copy, length, length + (size_t)value % 32);
+/* ---- the sample of every kind */
+
+/* Every length of cut requests, byte by byte, at every room. */
+static void every_cut(const struct sample *s) {
+    for (size_t cut = 0; cut <= s->count; cut++) {
+        ask(s->bytes, cut);
+        const struct plan *p = plan(requests, length);
+        for (size_t room = 0; room <= p->written[p->records] + RVT_LONGEST_ANSWER; room++)
+            batch(p, room);
+    }
+}
+
+/* Every byte replaced in turn by every other, so that every kind is tried in every place. */
+static void damaged(const struct sample *s) {
+    uint8_t copy[sizeof s->bytes];
+    for (size_t at = 0; at < s->count; at++)
+        for (unsigned byte = 0; byte < BYTES; byte++) {
+            memcpy(copy, s->bytes, s->count);
+            copy[at] = (uint8_t)byte;
+            ask(copy, s->count);
+            batch(plan(requests, length), s->count + byte % 32);
         }
+}
+
+/* Every length of report, at every room: where it is not the one, nothing is touched. */
+static void every_report(const struct sample *s) {
+    ask(s->bytes, s->count);
+    const struct plan *p = plan(requests, length);
+    for (size_t room = 0; room <= p->written[p->records] + RVT_LONGEST_ANSWER; room++)
+        for (size_t size = 0; size <= LONGEST_REPORT; size++)
+            call(p, room, size, size % 2 == 0 ? 0x55 : 0xAA);
+}
+
+/* Kinds that are in no table, alone and behind a record. */
+static void unknown(const struct sample *s) {
+    static const uint8_t NONE[] = {0, 200};
+    for (size_t i = 0; i < sizeof NONE; i++) {
+        uint8_t bytes[2 * RVT_LONGEST_REQUEST] = {0};
+        size_t first = 1 + kind_of(s->bytes[0])->body;
+        bytes[0] = NONE[i];
+        ask(bytes, RVT_LONGEST_REQUEST);
+        check(plan(requests, length)->code == RVT_UNKNOWN, "no kind of the table", NONE[i]);
+        batch(plan(requests, length), RVT_LONGEST_ANSWER);
+        memcpy(bytes, s->bytes, first);
+        bytes[first] = NONE[i];
+        ask(bytes, sizeof bytes);
+        batch(plan(requests, length), 2 * RVT_LONGEST_ANSWER);
+    }
+}
+
+/* Requests of noise, most of them with records of known kinds at the front. */
+static void noise(void) {
+    uint8_t bytes[BYTES];
     uint64_t seed = 1;
-    for (int i = 0; i < 20000; i++) {
-        for (size_t at = 0; at < sizeof noise; at++) {
+    for (int n = 0; n < 20000; n++) {
+        for (size_t at = 0; at < sizeof bytes; at++) {
             seed = seed * 6364136223846793005u + 1442695040888963407u;
-            noise[at] = (uint8_t)(seed >> 56);
+            bytes[at] = (uint8_t)(seed >> 56);
         }
-        /* records of known kinds at the front, seven in eight times each */
-        for (size_t at = 0; at < sizeof noise && noise[at] % 8 != 0; at += 1 + body_length(noise[at]))
-            noise[at] = KINDS[noise[at] % sizeof KINDS];
-        batch(noise, (size_t)(seed >> 32) % (sizeof noise + 1), (size_t)(seed >> 40) % 300);
+        for (size_t at = 0; at < sizeof bytes && bytes[at] % 8 != 0;) {
+            const struct kind *k = &KINDS[bytes[at] % KIND_COUNT];
+            bytes[at] = k->number;
+            at += 1 + k->body;
+        }
+        ask(bytes, (size_t)(seed >> 32) % (sizeof bytes + 1));
+        batch(plan(requests, length), (size_t)(seed >> 40) % 300);
     }
 }
 
 /* A null pointer with length 0. */
 static void empty(void) {
-    uint8_t out[1] = {7};
+    const uint8_t *one = (const uint8_t *)"\3\0\0\0\0\0\0\030\100";
+    uint8_t out[1] = {7}, told[RVT_REPORT_BYTES];
     check(rvt_batch_code(NULL, 0, NULL, 0) == RVT_DONE, "nothing at all", 0);
     check(rvt_batch_code(NULL, 0, out, 1) == RVT_DONE && out[0] == 7, "no requests", 0);
-    check(rvt_batch_code((const uint8_t *)"\3\0\0\0\0\0\0\030\100", 9, NULL, 0) == RVT_FULL, "no room", 0);
+    check(rvt_batch_code(one, 9, NULL, 0) == RVT_FULL, "no room", 0);
+    check(rvt_batch(NULL, 0, NULL, 0, told, sizeof told) == RVT_DONE, "nothing at all, and a report", 0);
+    check(all(told, sizeof told, 0), "a report of nothing", 0);
+    check(rvt_batch(one, 9, out, 1, NULL, 0) == RVT_REPORT_LENGTH && out[0] == 7, "no report", 0);
+}
+
+/* The longest request and answer of the header are those of the table. */
+static void longest(void) {
+    size_t request = 0, most = 0;
+    for (size_t i = 0; i < KIND_COUNT; i++) {
+        const struct kind *k = &KINDS[i];
+        request = request < 1 + k->body ? 1 + k->body : request;
+        most = most < 1 + k->values + k->tail ? 1 + k->values + k->tail : most;
+    }
+    check(request == RVT_LONGEST_REQUEST, "the longest request", request);
+    check(most == RVT_LONGEST_ANSWER, "the longest answer", most);
 }
 
 int main(int count, char **words) {
-    static uint8_t requests[MOST], answers[MOST];
-    for (int i = 1; i + 1 < count; i += 2) {
-        size_t length = load(words[i], requests), answers_length = load(words[i + 1], answers);
-        stored(requests, length, answers, answers_length);
-        size_t few = length < 50 ? length : 50;
-        every_room(requests, length < 4096 ? length : few);
-        every_cut(requests, few);
-        damaged(requests, few);
-    }
+    static struct sample s;
+    if (count < 3 || count % 2 == 0)
+        give_up("usage", "test REQUESTS ANSWERS ...");
+    longest();
+    for (int i = 1; i < count; i += 2)
+        stream(words[i], words[i + 1], &s);
+    check(s.kinds == KIND_COUNT, "every kind has a stored answer", s.kinds);
+    every_cut(&s);
+    damaged(&s);
+    every_report(&s);
+    unknown(&s);
+    noise();
     empty();
     printf("%lu checks, %lu failed\n", checks, failures);
     return failures != 0;

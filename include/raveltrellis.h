@@ -1,27 +1,41 @@
 /*
- * raveltrellis.h: gamma, log-gamma and the error functions by bits, and the batch, from C and C++.
+ * raveltrellis.h: gamma, log-gamma and the error functions, and the batch, from C and C++.
  *
- * The library is target/staticlib/libentries.a, which `rt staticlib entries` proves and writes, for
- * Linux on x86-64. It allocates nothing, keeps nothing between calls, and calls nothing, so any
- * number of threads may use it at once.
+ * The library is libraveltrellis.a as `bin/install` puts it beside this header, or
+ * target/staticlib/libentries.a as `rt staticlib entries` proves and writes it, for Linux on x86-64.
+ * It allocates nothing, keeps nothing between calls, and calls nothing, so any number of threads may
+ * use it at once.
  *
  * Every entry answers every bit pattern and every content of the buffers, and returns. It asks of its
  * caller what C does: a pointer with the length of what it points to, or any pointer with length 0,
- * also a null one; the two buffers of a batch do not overlap; nobody else writes to the requests, or
- * reads or writes the answers, before the call returns; and the processor's float control is as a
- * program finds it (rounding to nearest, subnormal numbers kept).
+ * also a null one; the buffers of a batch do not overlap; nobody else writes to the requests, or
+ * reads or writes the answers or the report, before the call returns; and the processor's float
+ * control is as a program finds it (rounding to nearest, subnormal numbers kept).
+ *
+ * The entries are numbers and bytes, and they are what is proved. The functions that are written out
+ * here turn C's types into them, and do nothing else.
  */
 #ifndef RAVELTRELLIS_H
 #define RAVELTRELLIS_H
 
 #include <stddef.h>
 #include <stdint.h>
+#include <string.h>
+
+/* The version of this interface. What is added raises the second number, what changes or goes the
+ * first. */
+#define RVT_VERSION_MAJOR 1
+#define RVT_VERSION_MINOR 0
+#define RVT_VERSION_PATCH 0
+#define RVT_VERSION (RVT_VERSION_MAJOR * 10000 + RVT_VERSION_MINOR * 100 + RVT_VERSION_PATCH)
 
 #ifdef __cplusplus
 extern "C" {
 #endif
 
-/* Functions from the bits of an f64 to the bits of an f64. A NaN's answer is 0x7FF8000000000000. */
+/* ---- The functions, by bits. */
+
+/* From the bits of an f64 to the bits of an f64. A NaN's answer is 0x7FF8000000000000. */
 
 /* The gamma function. */
 uint64_t rvt_tgamma(uint64_t x);
@@ -42,13 +56,7 @@ int32_t rvt_lgammaf_r_sign(uint32_t x);
 uint32_t rvt_erff(uint32_t x);
 uint32_t rvt_erfcf(uint32_t x);
 
-/* The codes that a batch stops with. */
-enum rvt_stop {
-    RVT_DONE = 0,    /* the requests are used up */
-    RVT_UNKNOWN = 1, /* the kind at the front is not in the table */
-    RVT_CUT = 2,     /* the kind is known, and its body is incomplete */
-    RVT_FULL = 3     /* the record is whole, and its answer is longer than the room left */
-};
+/* ---- The batch. */
 
 /*
  * A batch answers whole records from the front of the requests, one after another, until one of the
@@ -64,16 +72,125 @@ enum rvt_stop {
  *     17    lgammaf_r  5              6
  *     19    erff       5              5
  *     20    erfcf      5              5
- *
- * Each of these four does the whole batch: the requests stay as they are, the answers stand at the
- * front of the answer buffer, and the bytes behind them stay as they were. Called one after another
- * on the same buffers they do the same again, and each gives one number: the stop code, the records
- * answered, the bytes read and the bytes written.
+ */
+enum rvt_kind {
+    RVT_TGAMMA = 1,
+    RVT_LGAMMA_R = 2,
+    RVT_ERF = 3,
+    RVT_ERFC = 4,
+    RVT_LGAMMAF_R = 17,
+    RVT_ERFF = 19,
+    RVT_ERFCF = 20
+};
+
+/* The bytes of the longest request, of the longest answer and of a report. A buffer with room for the
+ * longest answer to every request is never too short. */
+#define RVT_LONGEST_REQUEST 9
+#define RVT_LONGEST_ANSWER 10
+#define RVT_REPORT_BYTES 24
+
+/* The codes that a batch stops with. */
+enum rvt_stop {
+    RVT_DONE = 0,          /* the requests are used up */
+    RVT_UNKNOWN = 1,       /* the kind at the front is not in the table */
+    RVT_CUT = 2,           /* the kind is known, and its body is incomplete */
+    RVT_FULL = 3,          /* the record is whole, and its answer is longer than the room left */
+    RVT_REPORT_LENGTH = 10 /* the report has another length than RVT_REPORT_BYTES: nothing is touched */
+};
+
+/* What a batch did: the records answered, the bytes read and the bytes written. */
+struct rvt_report {
+    uint64_t records, read, written;
+};
+
+/*
+ * The batch. The requests stay as they are, the answers stand at the front of the answer buffer, and
+ * the bytes behind them stay as they were. The result is the code, and the report has the three
+ * numbers of struct rvt_report one after another, eight bytes each, the lowest byte first.
+ */
+uint64_t rvt_batch(const uint8_t *requests, size_t requests_length, uint8_t *answers, size_t answers_length,
+                   uint8_t *report, size_t report_length);
+
+/*
+ * Each of these does the whole batch too, and gives one number: the stop code, the records answered,
+ * the bytes read, the bytes written. A host that wants more than one of them pays less by rvt_batch.
  */
 uint64_t rvt_batch_code(const uint8_t *requests, size_t requests_length, uint8_t *answers, size_t answers_length);
 uint64_t rvt_batch_records(const uint8_t *requests, size_t requests_length, uint8_t *answers, size_t answers_length);
 uint64_t rvt_batch_read(const uint8_t *requests, size_t requests_length, uint8_t *answers, size_t answers_length);
 uint64_t rvt_batch_written(const uint8_t *requests, size_t requests_length, uint8_t *answers, size_t answers_length);
+
+/* ---- The same on C's own types. */
+
+/* The number that eight bytes make, the lowest first, on a host of any byte order. Written out, since
+ * a compiler then makes one load of it. */
+static inline uint64_t rvt_number(const uint8_t *bytes) {
+    uint64_t x = bytes[7];
+    x = x << 8 | bytes[6];
+    x = x << 8 | bytes[5];
+    x = x << 8 | bytes[4];
+    x = x << 8 | bytes[3];
+    x = x << 8 | bytes[2];
+    x = x << 8 | bytes[1];
+    return x << 8 | bytes[0];
+}
+
+/* The batch, with its report in a struct. */
+static inline uint64_t rvt_batch_run(const uint8_t *requests, size_t requests_length, uint8_t *answers,
+                                     size_t answers_length, struct rvt_report *report) {
+    uint8_t bytes[RVT_REPORT_BYTES];
+    uint64_t code = rvt_batch(requests, requests_length, answers, answers_length, bytes, sizeof bytes);
+    report->records = rvt_number(bytes);
+    report->read = rvt_number(bytes + 8);
+    report->written = rvt_number(bytes + 16);
+    return code;
+}
+
+static inline uint64_t rvt_bits_f64(double x) {
+    uint64_t bits;
+    memcpy(&bits, &x, sizeof bits);
+    return bits;
+}
+
+static inline double rvt_of_bits_f64(uint64_t bits) {
+    double x;
+    memcpy(&x, &bits, sizeof x);
+    return x;
+}
+
+static inline uint32_t rvt_bits_f32(float x) {
+    uint32_t bits;
+    memcpy(&bits, &x, sizeof bits);
+    return bits;
+}
+
+static inline float rvt_of_bits_f32(uint32_t bits) {
+    float x;
+    memcpy(&x, &bits, sizeof x);
+    return x;
+}
+
+static inline double rvt_tgamma_f64(double x) { return rvt_of_bits_f64(rvt_tgamma(rvt_bits_f64(x))); }
+static inline double rvt_erf_f64(double x) { return rvt_of_bits_f64(rvt_erf(rvt_bits_f64(x))); }
+static inline double rvt_erfc_f64(double x) { return rvt_of_bits_f64(rvt_erfc(rvt_bits_f64(x))); }
+static inline float rvt_erff_f32(float x) { return rvt_of_bits_f32(rvt_erff(rvt_bits_f32(x))); }
+static inline float rvt_erfcf_f32(float x) { return rvt_of_bits_f32(rvt_erfcf(rvt_bits_f32(x))); }
+
+/* Log-gamma and, where `sign` is not null, the gamma function's sign, 1 or -1, which costs a second
+ * call. */
+static inline double rvt_lgamma_r_f64(double x, int *sign) {
+    uint64_t bits = rvt_bits_f64(x);
+    if (sign)
+        *sign = rvt_lgamma_r_sign(bits);
+    return rvt_of_bits_f64(rvt_lgamma_r_value(bits));
+}
+
+static inline float rvt_lgammaf_r_f32(float x, int *sign) {
+    uint32_t bits = rvt_bits_f32(x);
+    if (sign)
+        *sign = rvt_lgammaf_r_sign(bits);
+    return rvt_of_bits_f32(rvt_lgammaf_r_value(bits));
+}
 
 #ifdef __cplusplus
 }
