@@ -2,7 +2,7 @@
 ghost use mathlib.Core.Path.{_≡_};
 ghost use lib.Ieee.{binary32, ofInt};
 ghost use Rattle.exp.specs.Plan.{primaryS, multipleS, reducedS, plainS};
-ghost use Rattle.exp.specs.Expf.{exp32, specialfS, expfS};
+ghost use Rattle.exp.specs.Expf.{exp32, specialS, expfS};
 use poly::hornerf;
 use scalbn::single::scalbnf;
 use words::bits::sign_f32;
@@ -85,7 +85,7 @@ fn plain(x: f32, hx: u32, sign: u32) -> f32
 
 // Special cases, from |x| = 87.33655 on.
 fn special(x: f32, hx: u32, sign: u32) -> f32
-    ensures { λ r. ⌜ r ≡ specialfS x hx sign ⌝ }
+    ensures { λ r. ⌜ r ≡ specialS x hx sign ⌝ }
 {
     if hx > 0x7f800000 {
         return x;

@@ -47,11 +47,11 @@ fn down(x: f64, n: i32) -> f64
     requires { ⌜ ltZ n (negsuc 1021) ≡ true ⌝ }
     ensures { λ r. ⌜ r ≡ downS binary64 x n ⌝ }
 {
-    let scale = power(EXP_MIN) * power(SIG_TOTAL_BITS);
-    let x1 = x * scale;
+    let mul = power(EXP_MIN) * power(SIG_TOTAL_BITS);
+    let x1 = x * mul;
     let n1 = n + ADD;
     if n1 < EXP_MIN {
-        let x2 = x1 * scale;
+        let x2 = x1 * mul;
         let n2 = n1 + ADD;
         if n2 < EXP_MIN {
             return x2 * power(EXP_MIN);
