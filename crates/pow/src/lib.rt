@@ -2,7 +2,7 @@
 ghost use mathlib.Core.Path.{_≡_};
 ghost use mathlib.Core.Bool.{not, _&&_, _||_};
 ghost use Prim.Native.Nat.{_%_, _^_, _<_};
-ghost use lib.Dec.{eqb};
+ghost use Rattle.words.specs.Tests.{_=?_};
 ghost use Rattle.pow.specs.Pow.{nanWords, parityS, yisintS, hugeS, signedS, plainS, turnedS, specialXS, finiteS, infiniteS, specialYS, powAtS, powS};
 use pow_exp::HUGE;
 use pow_exp::TINY;
@@ -141,7 +141,7 @@ fn special_x(x: f64, hx: u32, hy: u32, yisint: u32) -> f64
 
 // Whether ix and lx are the words of 0, inf or 1.
 fn is_special(ix: u32, lx: u32) -> bool
-    ensures { λ r. ⌜ r ≡ (eqb lx 0 && (eqb ix 0x7FF00000 || eqb ix 0 || eqb ix 0x3FF00000)) ⌝ }
+    ensures { λ r. ⌜ r ≡ (lx =? 0 && (ix =? 0x7FF00000 || ix =? 0 || ix =? 0x3FF00000)) ⌝ }
 {
     if lx != 0 {
         return false;
@@ -216,7 +216,7 @@ fn special_y(x: f64, y: f64, hx: u32, lx: u32, hy: u32, ly: u32) -> f64
 
 // Whether h and l are the words of the number with the high word w and the low word 0.
 fn is_pattern(h: u32, l: u32, w: u32) -> bool
-    ensures { λ r. ⌜ r ≡ (eqb h w && eqb l 0) ⌝ }
+    ensures { λ r. ⌜ r ≡ (h =? w && l =? 0) ⌝ }
 {
     if h == w { l == 0 } else { false }
 }

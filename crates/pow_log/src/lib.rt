@@ -1,10 +1,10 @@
 // log2 of |x| in two parts: the first half of pow.rs.
 ghost use mathlib.Core.Path.{_≡_};
 ghost use Prim.Native.Nat.{ℕ, _≤_};
-ghost use lib.Dec.{eqb};
 ghost use lib.IntN.{pos, negℤ, _-ℤ_};
 ghost use lib.Ieee.{Float};
-ghost use Rattle.words.specs.Pick.{pick};
+ghost use Rattle.words.specs.Pick.{if_then_else_};
+ghost use Rattle.words.specs.Tests.{_=?_};
 ghost use Rattle.pow_log.specs.Log2.{nearOneS, seriesS, intervalS, normalS, log2S};
 use poly::horner;
 use words::bits::clear_low_word;
@@ -99,7 +99,7 @@ fn exponent(e: u32, bias: u32) -> i32
 
 // a where k is 0, else b.
 fn at(k: u32, a: f64, b: f64) -> f64
-    ensures { λ r. ⌜ r ≡ pick (eqb k 0) a b ⌝ }
+    ensures { λ r. ⌜ r ≡ (if k =? 0 then a else b) ⌝ }
 {
     if k == 0 { a } else { b }
 }
