@@ -1,8 +1,8 @@
 // erf and erfc. A list of coefficients is PP0, PP1, .. of the Rust; QQ, QA, SA and SB begin with their 1.0.
 ghost use mathlib.Core.Path.{_≡_};
-ghost use lib.Dec.{eqb};
 ghost use lib.Ieee.{neg};
-ghost use Rattle.words.specs.Pick.{pick};
+ghost use Rattle.words.specs.Pick.{if_then_else_};
+ghost use Rattle.words.specs.Tests.{_≠?_};
 ghost use Rattle.erf.specs.Plan.{erfc1S, ratioS, shortS, erfc2S, smallS};
 ghost use Rattle.erf.specs.Erf64.{erf64, erfS, erfcS};
 use exp::exp;
@@ -150,7 +150,7 @@ fn small(x: f64) -> f64
 
 // y with the sign of x.
 fn signed(sign: u32, y: f64) -> f64
-    ensures { λ r. ⌜ r ≡ pick (eqb sign 0) y (neg y) ⌝ }
+    ensures { λ r. ⌜ r ≡ (if sign ≠? 0 then neg y else y) ⌝ }
 {
     if sign != 0 { -y } else { y }
 }
