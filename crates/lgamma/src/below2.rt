@@ -1,8 +1,8 @@
 // lgamma_r of x < 2.0, by three formulas.
 ghost use mathlib.Core.Path.{_≡_};
-ghost use lib.Dec.{leb};
 ghost use lib.Ieee.{neg};
-ghost use Rattle.words.specs.Pick.{pick};
+ghost use Rattle.words.specs.Pick.{if_then_else_};
+ghost use Rattle.words.specs.Tests.{_≤?_};
 ghost use Rattle.lgamma.specs.Plan.{segmentS, zeroS, oneS, twoS, addedS, below2S};
 ghost use Rattle.lgamma.specs.Lgamma64.{lgamma64};
 ghost use Rattle.lgamma.specs.Segment.{segmentOf};
@@ -161,7 +161,7 @@ fn added(s: Segment) -> f64
 
 // Where r starts.
 fn start(ix: u32, x: f64) -> f64
-    ensures { λ r. ⌜ r ≡ pick (leb ix (lgamma64 .to0·9)) (neg (lgamma64 .log x)) (lgamma64 .zero) ⌝ }
+    ensures { λ r. ⌜ r ≡ (if ix ≤? lgamma64 .to0·9 then neg (lgamma64 .log x) else lgamma64 .0·0) ⌝ }
 {
     if ix <= UP_TO_0_9 {
         /* lgamma(x) = lgamma(x+1)-log(x) */

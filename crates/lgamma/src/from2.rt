@@ -1,7 +1,7 @@
 // lgamma_r of x >= 2.0: below 8.0 by the product of the numbers below x, then by Stirling's formula.
 ghost use mathlib.Core.Path.{_≡_};
 ghost use lib.Ieee.{binary64, mul};
-ghost use Rattle.words.specs.Pick.{pick};
+ghost use Rattle.words.specs.Pick.{if_then_else_};
 ghost use Rattle.lgamma.specs.Plan.{productS, below8S, stirlingS};
 ghost use Rattle.lgamma.specs.Lgamma64.{lgamma64};
 use log::log;
@@ -44,7 +44,7 @@ const W: [f64; 6] = [
 
 // z, times the factor where the test holds.
 fn times(z: f64, factor: f64, test: bool) -> f64
-    ensures { λ r. ⌜ r ≡ pick test (mul binary64 z factor) z ⌝ }
+    ensures { λ r. ⌜ r ≡ (if test then mul binary64 z factor else z) ⌝ }
 {
     if test {
         return z * factor;

@@ -4,11 +4,11 @@ pub mod lanczos;
 ghost use mathlib.Core.Path.{_≡_};
 ghost use mathlib.Core.Bool.{true};
 ghost use Prim.Native.Nat.{_≤_};
-ghost use lib.Dec.{eqb};
 ghost use lib.IntN.{natAbs};
 ghost use lib.Ieee as Ieee;
 ghost use lib.Ieee.{binary64, neg};
-ghost use Rattle.words.specs.Pick.{pick};
+ghost use Rattle.words.specs.Pick.{if_then_else_};
+ghost use Rattle.words.specs.Tests.{_=?_};
 ghost use Rattle.words.specs.Bits.{sizeWordS, signS};
 ghost use Rattle.words.specs.F64.{bits};
 ghost use Rattle.words.specs.Floor.{floorS};
@@ -58,7 +58,7 @@ const FACT: [f64; 23] = [
 
 // |x|
 fn size(x: f64, sign: u32) -> f64
-    ensures { λ r. ⌜ r ≡ pick (eqb sign 1) (neg x) x ⌝ }
+    ensures { λ r. ⌜ r ≡ (if sign =? 1 then neg x else x) ⌝ }
 {
     if sign == 1 { -x } else { x }
 }
