@@ -1,4 +1,6 @@
-// erff and erfcf. A list of coefficients is PP0, PP1, .. of the Rust; QQ, QA, SA and SB begin with their 1.0.
+// erff and erfcf: the course of erf and erfc in f32, with the same regions; the coefficients are erf's, rounded to f32. z loses 13 bits, and the
+// tiny number is 2^-120.
+// A list of coefficients is PP0, PP1, .. of the Rust; QQ, QA, SA and SB begin with their 1.0.
 ghost use mathlib.Core.Path.{_≡_};
 ghost use lib.Ieee.{neg};
 ghost use Rattle.words.specs.Pick.{if_then_else_};

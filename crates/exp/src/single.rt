@@ -1,4 +1,5 @@
-// expf.
+// expf: exp's course with constants and cuts of its own. Two coefficients serve, with an error that msun gives as 2^-27.74; up to 2^-14 it is
+// 1 + x. The special cases go by the pattern: NaN, overflow from 88.72 on, +0 from -103.97 down.
 ghost use mathlib.Core.Path.{_≡_};
 ghost use lib.Ieee.{binary32, ofInt};
 ghost use Rattle.exp.specs.Plan.{primaryS, multipleS, reducedS, plainS};

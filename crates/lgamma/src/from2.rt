@@ -1,4 +1,6 @@
-// lgamma_r of x >= 2.0: below 8.0 by the product of the numbers below x, then by Stirling's formula.
+// lgamma_r of x >= 2.0. Below 8: y is the fraction of x; lgamma(2 + y) = y/2 + y S(y)/R(y), with an error that msun gives as 2^-61.71, and
+// lgamma(1 + s) = log(s) + lgamma(s) adds the log of (y + 2) (y + 3) .. up to x - 1. Below 2^58 Stirling's formula,
+// (x - 0.5) (log(x) - 1) + W0 + W1/x + W2/x^3 + .. + W6/x^11, with an error that msun gives as 2^-58.74; from there on x (log(x) - 1).
 ghost use mathlib.Core.Path.{_≡_};
 ghost use lib.Ieee.{binary64, mul};
 ghost use Rattle.words.specs.Pick.{if_then_else_};

@@ -1,4 +1,6 @@
-// lgammaf_r of x < 2.0, by three formulas.
+// lgammaf_r of x < 2.0. Up to 0.9 lgamma(x) = lgamma(x + 1) - log(x), and x + 1 stands for x. Then by the Rust's i, with y:
+// 0, near 2: y = 2 - x, a polynomial in y (A0 to A11) less y/2; 1, near the least value, which lies at TC: y = x - TC, TF + y^2 times a polynomial
+// (T0 to T14), TF with its tail TT; 2, near 1: y = x - 1, -y/2 + y U(y)/V(y). The cuts are 1.7316 and 1.2316, and each less 1.
 ghost use mathlib.Core.Path.{_≡_};
 ghost use lib.Ieee.{neg};
 ghost use Rattle.words.specs.Pick.{if_then_else_};

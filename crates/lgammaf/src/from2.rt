@@ -1,4 +1,4 @@
-// lgammaf_r of x >= 2.0: below 8.0 by the product of the numbers below x, then by Stirling's formula.
+// lgammaf_r of x >= 2.0, by lgamma_r's formulas: below 8 by the product of the numbers below x, then by Stirling's.
 ghost use mathlib.Core.Path.{_≡_};
 ghost use lib.Ieee.{binary32, mul};
 ghost use Rattle.words.specs.Pick.{if_then_else_};

@@ -1,4 +1,5 @@
-// The natural logarithm in f32, as the Rust's logf.rs has it.
+// logf: log's course with constants of its own: four coefficients, with an error that msun gives as 2^-34.24; a subnormal number is scaled up
+// by 2^25.
 ghost use Prim.Native.Nat.{_^_, _<_};
 ghost use mathlib.Core.Path.{_≡_};
 ghost use lib.IntN.{natAbs};

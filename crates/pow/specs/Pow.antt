@@ -3,7 +3,7 @@
 -- to read them in the Rust's order, from powS at the end up: powS, powAtS, specialYS, infiniteS, finiteS, yisintS (parityS), specialXS, turnedS,
 -- plainS, signedS, hugeS; then nearOneS and log2S of pow_log, and productS of pow_exp.
 -- hx, lx and hy, ly are the words of x and y, natural numbers below 2 ^ 32; ix and iy are hx and hy without the sign.
--- `hx < 0` of the Rust's i32 is hx ≥ 2 ^ 31, and `(a - b) | c == 0` is a = b and c = 0.
+-- `hx < 0` of the Rust's i32 is hx ≥ 2 ^ 31; `a | c == 0` is a = 0 and c = 0, and `(a - b) | c == 0` is a = b and c = 0.
 use Prim.Native.Nat.{ℕ, _-_, _*_, _/_, _%_, _^_}
 use mathlib.Core.Bool.{Bool, not, _&&_, _||_}
 use lib.Ieee.{Float, neg}

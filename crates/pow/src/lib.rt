@@ -1,4 +1,7 @@
-// pow: x to the power of y. The special cases are here; log2 and exp2 are the two halves of the rest.
+// pow: x to the power of y, after FreeBSD's msun: 2^(y log2|x|), with log2|x| in two parts (pow_log), the product in two parts and 2 to its power
+// (pow_exp). msun calls the answer nearly rounded. Here are the special cases, in the Rust's order: y = 0 and x = 1 give 1; a NaN; y infinite,
+// +-1, 2 or 0.5; x = +-0, +-inf or +-1; x < 0, where a y that is no whole number gives NaN and an odd one a minus sign; |y| beyond 2^31, where
+// all but an x close to 1 overflows or vanishes.
 ghost use mathlib.Core.Path.{_≡_};
 ghost use mathlib.Core.Bool.{not, _&&_, _||_};
 ghost use Prim.Native.Nat.{_%_, _^_, _<_};

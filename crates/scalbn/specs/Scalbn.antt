@@ -41,7 +41,7 @@ module _ (f : Format) where
       let scale = power2 n in
       x ⊗ scale
 
-  -- n < exp_min: x is scaled by 2 ^ (exp_min + sig_total_bits) once or twice before, which leaves no x subnormal
+  -- n < exp_min: x is scaled by 2 ^ (exp_min + sig_total_bits) once or twice before; n is then still below -sig_total_bits
   unfoldable pub downS : Float → ℤ → Float
   downS x n =
       let f·exp·min = power2 exp·min in

@@ -1,4 +1,4 @@
-// scalbnf: x times 2^n, in f32.
+// scalbnf: x times 2^n in f32, by scalbn's course with 2^127 and 2^(-126 + 24).
 ghost use mathlib.Core.Path.{_≡_};
 ghost use mathlib.Core.Bool.{true, false};
 ghost use lib.IntN.{ℤ, pos, negsuc};

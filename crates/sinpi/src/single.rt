@@ -1,4 +1,4 @@
-// sin(pi x) in f32, the Rust's sin_pi in lgammaf_r.rs.
+// sin(pi x) in f32, the Rust's sin_pi in lgammaf_r.rs: x mod 2 and n in f32, and from the difference on in f64, by k_sinf and k_cosf.
 ghost use mathlib.Core.Path.{_≡_};
 ghost use mathlib.Core.Bool.{false};
 ghost use lib.Ieee.{binary32, ofBits, lt};

@@ -1,4 +1,9 @@
-// tgamma: the gamma function, by the formula of Lanczos, with the reflection below 0.
+// tgamma: the gamma function, by the formula of Lanczos (1964) with the constants of boost and python:
+// Gamma(x) = y^(x - 0.5) e^-y S(x), y = x + g - 0.5, g = 6.024680040776729583740234375; GMHALF is g - 0.5, and S(x) is in module `lanczos`.
+// The rounding error dy of y is worked out, and r = S(x) e^-y corrected for it by dy g r / y. The power is pow(y, 0.5 (x - 0.5)) multiplied in twice,
+// so that no factor overflows where the answer does not. For x < 0, Gamma(x) Gamma(-x) = -pi / (x sin(pi x)).
+// Regions in the order tested: not finite; below 2^-54 in size 1/x; whole numbers: NaN below 0, up to 23 by a table; from 184 on in size overflow,
+// or +-0 below 0 by the parity of floor(x); the formula.
 pub mod lanczos;
 
 ghost use mathlib.Core.Path.{_≡_};
