@@ -34,8 +34,8 @@ module _ (p : Plan) where
     erfc2-near h = simp (lt-ltb ix (p .at1·25) h)
 
     pub erfc2-far : {a z q A B : Float} → p .at1·25 ≤ ix → a ≡ fabsS x → z ≡ shortS p a
-        → A ≡ p .exp (sub f (mul f (neg z) z) (p .x0·5625))
-        → q ≡ ratioS p ix (div f (p .one) (mul f a a))
+        → A ≡ p .exp (sub f (mul f (neg z) z) (p .0·5625))
+        → q ≡ ratioS p ix (div f (p .1·0) (mul f a a))
         → B ≡ p .exp (add f (mul f (sub f z a) (add f z a)) q)
         → div f (mul f A B) a ≡ erfc2S p ix x
     unfolding erfc2S
@@ -52,21 +52,21 @@ module _ (p : Plan) where
 
   -- y with the sign of x
   abbrev signed : ℕ → Float → Float
-  signed sign y = pick (eqb sign 0) y (neg y)
+  signed sign y = pick (not (eqb sign 0)) (neg y) y
 
   module _ {x : Float} {ix sign : ℕ} (i : ix ≡ p .ix x) (s : sign ≡ signS f x) where
     pub erf-not-finite : p .notFinite ≤ ix
-        → add f (sub f (p .one) (mul f (p .two) (ofInt f (pos sign)))) (div f (p .one) x) ≡ erfS p x
+        → add f (sub f (p .1·0) (mul f (p .2·0) (ofInt f (pos sign)))) (div f (p .1·0) x) ≡ erfS p x
     unfolding erfS
     erf-not-finite n = rw (← i, ← s) (simp (le-leb (p .notFinite) ix n))
 
-    pub erfc-not-finite : p .notFinite ≤ ix → add f (mul f (p .two) (ofInt f (pos sign))) (div f (p .one) x) ≡ erfcS p x
+    pub erfc-not-finite : p .notFinite ≤ ix → add f (mul f (p .2·0) (ofInt f (pos sign))) (div f (p .1·0) x) ≡ erfcS p x
     unfolding erfcS
     erfc-not-finite n = rw (← i, ← s) (simp (le-leb (p .notFinite) ix n))
 
     module _ (n : ix < p .notFinite) where
       -- ---- below 0.84375; y is smallS
-      pub erf-tiny : ix < p .at0·84375 → ix < p .at2^-28 → mul f (p .eighth) (add f (mul f (p .eight) x) (mul f (p .EFX8) x)) ≡ erfS p x
+      pub erf-tiny : ix < p .at0·84375 → ix < p .at2^-28 → mul f (p .0·125) (add f (mul f (p .8·0) x) (mul f (p .EFX8) x)) ≡ erfS p x
       unfolding erfS
       erf-tiny h t = rw (← i, ← s) (simp (lt-leb (p .notFinite) ix n, lt-ltb ix (p .at0·84375) h, lt-ltb ix (p .at2^-28) t))
 
@@ -74,19 +74,19 @@ module _ (p : Plan) where
       unfolding erfS
       erf-small h t e = rw (← i, ← s) (simp (lt-leb (p .notFinite) ix n, lt-ltb ix (p .at0·84375) h, le-ltb ix (p .at2^-28) t, e))
 
-      pub erfc-tiny : ix < p .at0·84375 → ix < p .at2^-56 → sub f (p .one) x ≡ erfcS p x
+      pub erfc-tiny : ix < p .at0·84375 → ix < p .at2^-56 → sub f (p .1·0) x ≡ erfcS p x
       unfolding erfcS
       erfc-tiny h t = rw (← i, ← s) (simp (lt-leb (p .notFinite) ix n, lt-ltb ix (p .at0·84375) h, lt-ltb ix (p .at2^-56) t))
 
       pub erfc-below-quarter : {y : Float} → ix < p .at0·84375 → p .at2^-56 ≤ ix → y ≡ smallS p x → BelowQuarter ix sign
-          → sub f (p .one) (add f x (mul f x y)) ≡ erfcS p x
+          → sub f (p .1·0) (add f x (mul f x y)) ≡ erfcS p x
       unfolding erfcS
       erfc-below-quarter h t e q =
           rw (← i, ← s)
           (simp (lt-leb (p .notFinite) ix n, lt-ltb ix (p .at0·84375) h, le-ltb ix (p .at2^-56) t, below-quarter ix sign q, e))
 
       pub erfc-from-quarter : {y : Float} → ix < p .at0·84375 → p .at2^-56 ≤ ix → y ≡ smallS p x → sign ≡ 0 → ltb ix (p .at1/4) ≡ false
-          → sub f (p .half) (add f (sub f x (p .half)) (mul f x y)) ≡ erfcS p x
+          → sub f (p .0·5) (add f (sub f x (p .0·5)) (mul f x y)) ≡ erfcS p x
       unfolding erfcS
       erfc-from-quarter h t e z q =
           rw (← i, ← s)
@@ -94,15 +94,15 @@ module _ (p : Plan) where
 
       -- ---- from 0.84375 on; y is erfc2S
       module _ (h : p .at0·84375 ≤ ix) where
-        pub erf-below-6 : {y : Float} → ix < p .at6 → y ≡ erfc2S p ix x → signed sign (sub f (p .one) y) ≡ erfS p x
+        pub erf-below-6 : {y : Float} → ix < p .at6 → y ≡ erfc2S p ix x → signed sign (sub f (p .1·0) y) ≡ erfS p x
         unfolding erfS
         erf-below-6 t e = rw (← i, ← s) (simp (lt-leb (p .notFinite) ix n, le-ltb ix (p .at0·84375) h, lt-ltb ix (p .at6) t, e))
 
-        pub erf-from-6 : p .at6 ≤ ix → signed sign (sub f (p .one) (p .tiny)) ≡ erfS p x
+        pub erf-from-6 : p .at6 ≤ ix → signed sign (sub f (p .1·0) (p .tiny)) ≡ erfS p x
         unfolding erfS
         erf-from-6 t = rw (← i, ← s) (simp (lt-leb (p .notFinite) ix n, le-ltb ix (p .at0·84375) h, le-ltb ix (p .at6) t))
 
-        pub erfc-minus : {y : Float} → ix < p .at28 → (sign ≡ 0 → ⊥) → y ≡ erfc2S p ix x → sub f (p .two) y ≡ erfcS p x
+        pub erfc-minus : {y : Float} → ix < p .at28 → (sign ≡ 0 → ⊥) → y ≡ erfc2S p ix x → sub f (p .2·0) y ≡ erfcS p x
         unfolding erfcS
         erfc-minus t z e =
             rw (← i, ← s) (simp (lt-leb (p .notFinite) ix n, le-ltb ix (p .at0·84375) h, lt-ltb ix (p .at28) t, ne-eqb sign 0 z, e))
@@ -112,7 +112,7 @@ module _ (p : Plan) where
         erfc-plus t z =
             rw (← i, ← s) (simp (lt-leb (p .notFinite) ix n, le-ltb ix (p .at0·84375) h, lt-ltb ix (p .at28) t, eq-eqb sign 0 z))
 
-        pub erfc-far-minus : p .at28 ≤ ix → (sign ≡ 0 → ⊥) → sub f (p .two) (p .tiny) ≡ erfcS p x
+        pub erfc-far-minus : p .at28 ≤ ix → (sign ≡ 0 → ⊥) → sub f (p .2·0) (p .tiny) ≡ erfcS p x
         unfolding erfcS
         erfc-far-minus t z =
             rw (← i, ← s) (simp (lt-leb (p .notFinite) ix n, le-ltb ix (p .at0·84375) h, le-ltb ix (p .at28) t, ne-eqb sign 0 z))

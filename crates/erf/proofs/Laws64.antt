@@ -16,7 +16,7 @@ use Rattle.erf.proofs.Regular.{Regular}
 use Rattle.erf.proofs.Mirror as Mirror
 
 -- the sum below 0.84375, on intervals
-small-test : T (halvedTest 4 binary64 (erf64 .tiny) (erf64 .one) (sumE erf64) [] (bits 0x3E30000000000000) (bits 0x3FEB000000000000))
+small-test : T (halvedTest 4 binary64 (erf64 .tiny) (erf64 .1·0) (sumE erf64) [] (bits 0x3E30000000000000) (bits 0x3FEB000000000000))
 unfolding halvedTest ieval hornerE add mul div neg le ofBits
 small-test = tt
 

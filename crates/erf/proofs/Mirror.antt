@@ -73,15 +73,15 @@ module _ (p : Plan) where
 
   -- 0.125 * (8 * x + EFX8 * x)
   tiny-odd : (r : Regular p) (m : ℕ) (e : ℤ)
-      → mul f (p .eighth) (add f (mul f (p .eight) (neg (fin false m e))) (mul f (p .EFX8) (neg (fin false m e))))
-      ≡ neg (mul f (p .eighth) (add f (mul f (p .eight) (fin false m e)) (mul f (p .EFX8) (fin false m e))))
+      → mul f (p .0·125) (add f (mul f (p .8·0) (neg (fin false m e))) (mul f (p .EFX8) (neg (fin false m e))))
+      ≡ neg (mul f (p .0·125) (add f (mul f (p .8·0) (fin false m e)) (mul f (p .EFX8) (fin false m e))))
   tiny-odd r m e =
       let x = fin false m e in
-      let a = mul f (p .eight) x in
+      let a = mul f (p .8·0) x in
       let b = mul f (p .EFX8) x in
-      rw (mul-neg-right f (p .eight) x, mul-neg-right f (p .EFX8) x)
-      (ap (mul f (p .eighth)) (add-odd-plus f a b (times-plus f (p .eight) m e (r .eight-plus)) (times-plus f (p .EFX8) m e (r .EFX8-plus)))
-      ∙ mul-neg-right f (p .eighth) (add f a b))
+      rw (mul-neg-right f (p .8·0) x, mul-neg-right f (p .EFX8) x)
+      (ap (mul f (p .0·125)) (add-odd-plus f a b (times-plus f (p .8·0) m e (r .eight-plus)) (times-plus f (p .EFX8) m e (r .EFX8-plus)))
+      ∙ mul-neg-right f (p .0·125) (add f a b))
 
   -- x + x * y, where it is above zero
   sum-odd : (x : Float) → T (positive (add f x (mul f x (Plan.smallS p x))))
@@ -126,24 +126,24 @@ module _ (p : Plan) where
 
   -- ---- erfc
   plus-mirror : (r : Regular p) (m : ℕ) (e : ℤ) → T (fits f (fin false m e)) → p .at0·84375 ≤ p .ix (fin false m e)
-      → Plan.erfcS p (neg (fin false m e)) ≡ sub f (p .two) (Plan.erfcS p (fin false m e))
+      → Plan.erfcS p (neg (fin false m e)) ≡ sub f (p .2·0) (Plan.erfcS p (fin false m e))
   unfolding Plan.erfcS
   plus-mirror r m e F h =
       let x = fin false m e in
       let w = p .ix x in
       rw (ix-neg p r x, sign-of f false m e F, minus m e F, lt-leb (p .notFinite) w (ix-finite p r m e F), le-ltb w (p .at0·84375) h)
-      (pick-through (sub f (p .two)) (ltb w (p .at28)) _ _ _ _
+      (pick-through (sub f (p .2·0)) (ltb w (p .at28)) _ _ _ _
       (λ (k : T (ltb w (p .at28))). rw (erfc2-even w x) refl)
       (λ (k : T (not (ltb w (p .at28)))). r .far))
 
   -- erfc(-x) is 2 - erfc(x), for an x from 0.84375 on
   pub erfc-mirror : (r : Regular p) (x : Float) → T (fits f x) → T (le (valueAt p (r .without) (p .at0·84375)) x)
-      → Plan.erfcS p (neg x) ≡ sub f (p .two) (Plan.erfcS p x)
+      → Plan.erfcS p (neg x) ≡ sub f (p .2·0) (Plan.erfcS p x)
   unfolding neg
   erfc-mirror r x F h = go x F h (above-of-le (valueAt p (r .without) (p .at0·84375)) x (r .cut-plus) h)
     where
       go : (x : Float) → T (fits f x) → T (le (valueAt p (r .without) (p .at0·84375)) x) → T (above x)
-          → Plan.erfcS p (neg x) ≡ sub f (p .two) (Plan.erfcS p x)
+          → Plan.erfcS p (neg x) ≡ sub f (p .2·0) (Plan.erfcS p x)
       go nan F h a = absurd a
       go (inf true) F h a = absurd a
       go (inf false) F h a = r .erfc-inf

@@ -36,19 +36,19 @@ pub record Regular (p : Plan) : Type 0 where
   pub infinity-is : p .notFinite * 2 ^ without ≡ endless (p .format)
   pub below-infinity : p .at0·84375 < p .notFinite
   -- constants above zero
-  pub eight-plus : T (positive (p .eight))
+  pub eight-plus : T (positive (p .8·0))
   pub EFX8-plus : T (positive (p .EFX8))
   pub tiny-plus : T (positive (p .tiny))
-  pub one-plus : T (positive (p .one))
+  pub one-plus : T (positive (p .1·0))
   pub cut-plus : T (positive (valueAt p without (p .at0·84375)))
   -- from 2 ^ -28 to 0.84375 erf lies from tiny to 1: the terms of its sum do not cancel
-  pub small-test : T (halvedTest 4 (p .format) (p .tiny) (p .one) (sumE p) [] (valueAt p without (p .at2^-28)) (valueAt p without (p .at0·84375)))
+  pub small-test : T (halvedTest 4 (p .format) (p .tiny) (p .1·0) (sumE p) [] (valueAt p without (p .at2^-28)) (valueAt p without (p .at0·84375)))
   -- what is not finite
   pub erf-nan : Plan.erfS p nan ≡ nan
   pub erf-inf : Plan.erfS p (inf true) ≡ neg (Plan.erfS p (inf false))
-  pub erfc-inf : Plan.erfcS p (inf true) ≡ sub (p .format) (p .two) (Plan.erfcS p (inf false))
+  pub erfc-inf : Plan.erfcS p (inf true) ≡ sub (p .format) (p .2·0) (Plan.erfcS p (inf false))
   -- from 28 on
-  pub far : sub (p .format) (p .two) (p .tiny) ≡ sub (p .format) (p .two) (mul (p .format) (p .tiny) (p .tiny))
+  pub far : sub (p .format) (p .2·0) (p .tiny) ≡ sub (p .format) (p .2·0) (mul (p .format) (p .tiny) (p .tiny))
 
 module _ (p : Plan) (r : Regular p) where
   abbrev f : Format
@@ -92,6 +92,6 @@ module _ (p : Plan) (r : Regular p) where
     pub small-plus : p .at2^-28 ≤ p .ix x → p .ix x < p .at0·84375 → T (positive (add f x (mul f x (Plan.smallS p x))))
     small-plus lo hi =
         let i =
-        subst (In (p .tiny) (p .one)) (sum-is p x)
-        (halved 4 f (p .tiny) (p .one) (sumE p) [] [] (at (p .at2^-28)) (at (p .at0·84375)) x tt (r .small-test) tt (small-in lo hi)) in
-        between (p .tiny) (add f x (mul f x (Plan.smallS p x))) (p .one) (r .tiny-plus) (r .one-plus) (i .0) (i .1)
+        subst (In (p .tiny) (p .1·0)) (sum-is p x)
+        (halved 4 f (p .tiny) (p .1·0) (sumE p) [] [] (at (p .at2^-28)) (at (p .at0·84375)) x tt (r .small-test) tt (small-in lo hi)) in
+        between (p .tiny) (add f x (mul f x (Plan.smallS p x))) (p .1·0) (r .tiny-plus) (r .one-plus) (i .0) (i .1)

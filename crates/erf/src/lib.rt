@@ -1,8 +1,15 @@
-// erf and erfc. A list of coefficients is PP0, PP1, .. of the Rust; QQ, QA, SA and SB begin with their 1.0.
+// erf and erfc, after FreeBSD's msun, by |x|: erf(-x) = -erf(x) and erfc(-x) = 2 - erfc(x). The errors are those that msun gives.
+// Below 0.84375: erf(x) = x + x R, R = PP/QQ in x^2 (2^-57.90). erfc(x) = 1 - erf(x), or 0.5 - (x - 0.5 + x R) from 1/4 on. Below 2^-28 erf is
+// 2/sqrt(pi) x, so written that nothing underflows; below 2^-56 erfc is 1 - x.
+// Below 1.25: erf(x) = ERX + PA/QA in |x| - 1 (2^-59.06), where ERX, near erf(1), has 24 bits.
+// Below 28: erfc(x) = exp(-x^2 - 0.5625 + R/S) / x, R/S in 1/x^2: RA/SA below 1/0.35 (2^-62.57), then RB/SB (2^-61.52). -x^2 is
+// -z^2 + (z - x) (z + x), where z is x with a cleared low word, so that z^2 is exact. erf = 1 - erfc, and from 6 on 1 - 2^-1022.
+// From 28 on erfc is 2^-1022 times itself, or 2 - 2^-1022 for a negative x.
+// A list of coefficients is PP0, PP1, .. of the Rust; QQ, QA, SA and SB begin with their 1.0.
 ghost use mathlib.Core.Path.{_≡_};
-ghost use lib.Dec.{eqb};
 ghost use lib.Ieee.{neg};
-ghost use Rattle.words.specs.Pick.{pick};
+ghost use Rattle.words.specs.Pick.{if_then_else_};
+ghost use Rattle.words.specs.Tests.{_≠?_};
 ghost use Rattle.erf.specs.Plan.{erfc1S, ratioS, shortS, erfc2S, smallS};
 ghost use Rattle.erf.specs.Erf64.{erf64, erfS, erfcS};
 use exp::exp;
@@ -150,7 +157,7 @@ fn small(x: f64) -> f64
 
 // y with the sign of x.
 fn signed(sign: u32, y: f64) -> f64
-    ensures { λ r. ⌜ r ≡ pick (eqb sign 0) y (neg y) ⌝ }
+    ensures { λ r. ⌜ r ≡ (if sign ≠? 0 then neg y else y) ⌝ }
 {
     if sign != 0 { -y } else { y }
 }

@@ -16,7 +16,7 @@ use Rattle.erf.proofs.Mirror as Mirror
 use Rattle.erff.specs.Erff.{erf32, erffS, erfcfS}
 
 -- the sum below 0.84375, on intervals
-small-test : T (halvedTest 4 binary32 (erf32 .tiny) (erf32 .one) (sumE erf32) [] (bits 0x31800000) (bits 0x3F580000))
+small-test : T (halvedTest 4 binary32 (erf32 .tiny) (erf32 .1·0) (sumE erf32) [] (bits 0x31800000) (bits 0x3F580000))
 unfolding halvedTest ieval hornerE add mul div neg le ofBits
 small-test = tt
 

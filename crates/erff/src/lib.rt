@@ -1,8 +1,10 @@
-// erff and erfcf. A list of coefficients is PP0, PP1, .. of the Rust; QQ, QA, SA and SB begin with their 1.0.
+// erff and erfcf: the course of erf and erfc in f32, with the same regions; the coefficients are erf's, rounded to f32. z loses 13 bits, and the
+// tiny number is 2^-120.
+// A list of coefficients is PP0, PP1, .. of the Rust; QQ, QA, SA and SB begin with their 1.0.
 ghost use mathlib.Core.Path.{_≡_};
-ghost use lib.Dec.{eqb};
 ghost use lib.Ieee.{neg};
-ghost use Rattle.words.specs.Pick.{pick};
+ghost use Rattle.words.specs.Pick.{if_then_else_};
+ghost use Rattle.words.specs.Tests.{_≠?_};
 ghost use Rattle.erf.specs.Plan.{erfc1S, ratioS, shortS, erfc2S, smallS};
 ghost use Rattle.erff.specs.Erff.{erf32, erffS, erfcfS};
 use exp::single::expf;
@@ -151,7 +153,7 @@ fn small(x: f32) -> f32
 
 // y with the sign of x.
 fn signed(sign: u32, y: f32) -> f32
-    ensures { λ r. ⌜ r ≡ pick (eqb sign 0) y (neg y) ⌝ }
+    ensures { λ r. ⌜ r ≡ (if sign ≠? 0 then neg y else y) ⌝ }
 {
     if sign != 0 { -y } else { y }
 }

@@ -60,7 +60,7 @@ product-test : T (rangeTest binary64 (number true 275) (number true 7) productE 
 unfolding productE ieval ofBits mul le
 product-test = tt
 
-quotient-test : T (rangeTest binary64 (number true 275) (number true 8) (plus productE (con (exp64 .minusHalf))) [] from190 to55)
+quotient-test : T (rangeTest binary64 (number true 275) (number true 8) (plus productE (con (exp64 .-0·5))) [] from190 to55)
 unfolding productE ieval ofBits add mul le
 quotient-test = tt
 
@@ -70,7 +70,7 @@ product-in x i = range binary64 (number true 275) (number true 7) productE [] []
 
 quotient-in : (x : Float) → In from190 to55 x → In (number true 275) (number true 8) (quotient x)
 unfolding productE product quotient eval
-quotient-in x i = range binary64 (number true 275) (number true 8) (plus productE (con (exp64 .minusHalf))) [] [] from190 to55 x quotient-test tt i
+quotient-in x i = range binary64 (number true 275) (number true 8) (plus productE (con (exp64 .-0·5))) [] [] from190 to55 x quotient-test tt i
 
 -- ---- the bounds
 reduced-range : (x : Float) → T (finite x) → In from190 to55 x → In least one (reducedS exp64 x (wholeS (quotient x)))

@@ -32,7 +32,7 @@ product x = exp64 .INVLN2 ⊗ x
 
 unfoldable pub quotient : Float → Float
 unfolding product
-quotient x = product x ⊕ exp64 .minusHalf
+quotient x = product x ⊕ exp64 .-0·5
 
 -- k as a float
 unfoldable multiple : ℕ → Float
@@ -119,7 +119,7 @@ quotient-mono : (x y : Float) → T (finite x) → T (finite y) → T (finite (p
     → T (le (quotient x) (quotient y))
 unfolding quotient ofBits
 quotient-mono x y X Y U W h =
-    add-mono binary64 (product x) (product y) (exp64 .minusHalf) (exp64 .minusHalf) U W tt tt (product-mono x y X Y h) (le-refl (exp64 .minusHalf) tt)
+    add-mono binary64 (product x) (product y) (exp64 .-0·5) (exp64 .-0·5) U W tt tt (product-mono x y X Y h) (le-refl (exp64 .-0·5) tt)
 
 module _ (j : ℕ) (from : 7 ≤ j) (upto : j ≤ 274) where
   here : (p : ℕ → Bool) → T (all p 268 7) → T (p j)

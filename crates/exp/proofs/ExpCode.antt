@@ -19,8 +19,8 @@ module _ (p : Plan) where
   abbrev pub yOf : Float → Float → Float → Float → Float
   yOf R x hi lo =
       let c = sub (p .format) x (mul (p .format) (mul (p .format) x x) R) in
-      let q = div (p .format) (mul (p .format) x c) (sub (p .format) (p .two) c) in
-      add (p .format) (p .one) (add (p .format) (sub (p .format) q lo) hi)
+      let q = div (p .format) (mul (p .format) x c) (sub (p .format) (p .2·0) c) in
+      add (p .format) (p .1·0) (add (p .format) (sub (p .format) q lo) hi)
 
   module _ (R x hi lo : Float) (k : ℤ) (F : SFits w32 k) (e : R ≡ hornerS (p .format) (p .P) (mul (p .format) x x)) where
     pub not-scaled : ofZ w32 k ≡ 0 → yOf R x hi lo ≡ primaryS p x hi lo k
@@ -36,11 +36,11 @@ module _ (p : Plan) where
   quotient x half = add (p .format) (mul (p .format) (p .INVLN2) x) half
 
   module _ (x : Float) (hx sign : ℕ) where
-    pub nearest-plus : p .from1·5ln2 ≤ hx → sign ≡ 0 → wholeS (quotient x (p .half)) ≡ multipleS p x hx sign
+    pub nearest-plus : p .from1·5ln2 ≤ hx → sign ≡ 0 → wholeS (quotient x (p .0·5)) ≡ multipleS p x hx sign
     unfolding multipleS
     nearest-plus h s = simp (le-leb (p .from1·5ln2) hx h, eq-eqb sign 0 s)
 
-    pub nearest-minus : p .from1·5ln2 ≤ hx → (sign ≡ 0 → ⊥) → wholeS (quotient x (p .minusHalf)) ≡ multipleS p x hx sign
+    pub nearest-minus : p .from1·5ln2 ≤ hx → (sign ≡ 0 → ⊥) → wholeS (quotient x (p .-0·5)) ≡ multipleS p x hx sign
     unfolding multipleS
     nearest-minus h s = simp (le-leb (p .from1·5ln2) hx h, ne-eqb sign 0 s)
 
@@ -56,11 +56,11 @@ module _ (p : Plan) where
     unfolding plainS
     by-multiple k F e h = simp (lt-ltb (p .to0·5ln2) hx h) (ap (reducedS p x) (toZ-ofZ w32 k F ∙ e))
 
-    pub by-itself : hx ≤ p .to0·5ln2 → p .toTiny < hx → primaryS p x x (p .zero) (pos 0) ≡ plainS p x hx sign
+    pub by-itself : hx ≤ p .to0·5ln2 → p .toTiny < hx → primaryS p x x (p .0·0) (pos 0) ≡ plainS p x hx sign
     unfolding plainS
     by-itself h l = simp (le-ltb (p .to0·5ln2) hx h, lt-ltb (p .toTiny) hx l)
 
-    pub tiny : hx ≤ p .to0·5ln2 → hx ≤ p .toTiny → add (p .format) (p .one) x ≡ plainS p x hx sign
+    pub tiny : hx ≤ p .to0·5ln2 → hx ≤ p .toTiny → add (p .format) (p .1·0) x ≡ plainS p x hx sign
     unfolding plainS
     tiny h l = simp (le-ltb (p .to0·5ln2) hx h, le-ltb (p .toTiny) hx l)
 

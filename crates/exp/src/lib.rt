@@ -1,4 +1,8 @@
-// exp. In f32: single.
+// exp, after FreeBSD's msun. Reduction: x = k ln2 + r with |r| <= 0.5 ln2, where ln2 is LN2HI + LN2LO and k LN2HI is exact; r is hi - lo.
+// Approximation: r (e^r + 1) / (e^r - 1) is 2 + P1 r^2 + .. + P5 r^10, with an error that msun gives as 2^-59. With c = r - (P1 r^2 + ..) that
+// makes e^r = 1 + (r c / (2 - c) - lo + hi), and scalbn multiplies by 2^k. msun's analysis gives less than one unit in the last place.
+// Regions by hx, the high word of |x|: from 708.39 on NaN, overflow above 709.78, +0 below -745.13; from 1.5 ln2 on k is the whole number
+// nearest to x / ln2; above 0.5 ln2 it is 1 or -1, above 2^-28 it is 0; up to there 1 + x. In f32: module `single`.
 pub mod single;
 
 ghost use mathlib.Core.Path.{_≡_};

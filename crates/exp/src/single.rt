@@ -1,8 +1,9 @@
-// expf.
+// expf: exp's course with constants and cuts of its own. Two coefficients serve, with an error that msun gives as 2^-27.74; up to 2^-14 it is
+// 1 + x. The special cases go by the pattern: NaN, overflow from 88.72 on, +0 from -103.97 down.
 ghost use mathlib.Core.Path.{_≡_};
 ghost use lib.Ieee.{binary32, ofInt};
 ghost use Rattle.exp.specs.Plan.{primaryS, multipleS, reducedS, plainS};
-ghost use Rattle.exp.specs.Expf.{exp32, specialfS, expfS};
+ghost use Rattle.exp.specs.Expf.{exp32, specialS, expfS};
 use poly::hornerf;
 use scalbn::single::scalbnf;
 use words::bits::sign_f32;
@@ -85,7 +86,7 @@ fn plain(x: f32, hx: u32, sign: u32) -> f32
 
 // Special cases, from |x| = 87.33655 on.
 fn special(x: f32, hx: u32, sign: u32) -> f32
-    ensures { λ r. ⌜ r ≡ specialfS x hx sign ⌝ }
+    ensures { λ r. ⌜ r ≡ specialS x hx sign ⌝ }
 {
     if hx > 0x7f800000 {
         return x;

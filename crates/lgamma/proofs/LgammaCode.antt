@@ -12,6 +12,7 @@ use mir.Val.{SFits, toZ, ofZ}
 use mir.ValLaws.{toZ-ofZ}
 use borrow.Author.Tests.{le-leb, lt-leb, lt-ltb, le-ltb, eq-eqb, ne-eqb}
 use Rattle.words.specs.Pick.{pick}
+use Rattle.words.specs.Operators.{Operators, operators}
 use Rattle.words.specs.Bits.{signS}
 use Rattle.words.specs.Whole.{wholeS}
 use Rattle.poly.specs.Horner.{hornerS}
@@ -19,27 +20,17 @@ use Rattle.lgamma.specs.Plan.{Plan, Answer, Segment}
 use Rattle.lgamma.specs.Plan.{segmentS, addedS, below2S, productS, below8S, stirlingS, sizeS, reflectedS, lgammaS}
 
 module _ (p : Plan) where
-  infixl 6 _⊕_ _⊖_
-  infixl 7 _⊗_ _⊘_
-  abbrev _⊕_ : Float → Float → Float
-  x ⊕ y = Ieee.add (p .format) x y
-
-  abbrev _⊖_ : Float → Float → Float
-  x ⊖ y = Ieee.sub (p .format) x y
-
-  abbrev _⊗_ : Float → Float → Float
-  x ⊗ y = Ieee.mul (p .format) x y
-
-  abbrev _⊘_ : Float → Float → Float
-  x ⊘ y = Ieee.div (p .format) x y
+  infixl 65 _⊕_ _⊖_
+  infixl 70 _⊗_ _⊘_
+  open Operators (operators (p .format)) using (_⊕_, _⊖_, _⊗_, _⊘_)
 
   -- ---- segment_at
   module _ (ix : ℕ) (x : Float) where
-    pub zero-to-0·9 : ix ≤ p .to0·9 → p .at0·7316 ≤ ix → record { i = 0; y = p .one ⊖ x } ≡ segmentS p ix x
+    pub zero-to-0·9 : ix ≤ p .to0·9 → p .at0·7316 ≤ ix → record { i = 0; y = p .1·0 ⊖ x } ≡ segmentS p ix x
     unfolding segmentS
     zero-to-0·9 h k = simp (le-leb _ _ h, le-leb _ _ k)
 
-    pub one-to-0·9 : ix ≤ p .to0·9 → ix < p .at0·7316 → p .at0·2316 ≤ ix → record { i = 1; y = x ⊖ (p .TC ⊖ p .one) } ≡ segmentS p ix x
+    pub one-to-0·9 : ix ≤ p .to0·9 → ix < p .at0·7316 → p .at0·2316 ≤ ix → record { i = 1; y = x ⊖ (p .TC ⊖ p .1·0) } ≡ segmentS p ix x
     unfolding segmentS
     one-to-0·9 h k l = simp (le-leb _ _ h, lt-leb _ _ k, le-leb _ _ l)
 
@@ -47,7 +38,7 @@ module _ (p : Plan) where
     unfolding segmentS
     two-to-0·9 h k l = simp (le-leb _ _ h, lt-leb _ _ k, lt-leb _ _ l)
 
-    pub zero-above-0·9 : p .to0·9 < ix → p .at1·7316 ≤ ix → record { i = 0; y = p .two ⊖ x } ≡ segmentS p ix x
+    pub zero-above-0·9 : p .to0·9 < ix → p .at1·7316 ≤ ix → record { i = 0; y = p .2·0 ⊖ x } ≡ segmentS p ix x
     unfolding segmentS
     zero-above-0·9 h k = simp (lt-leb _ _ h, le-leb _ _ k)
 
@@ -55,13 +46,13 @@ module _ (p : Plan) where
     unfolding segmentS
     one-above-0·9 h k l = simp (lt-leb _ _ h, lt-leb _ _ k, le-leb _ _ l)
 
-    pub two-above-0·9 : p .to0·9 < ix → ix < p .at1·7316 → ix < p .at1·2316 → record { i = 2; y = x ⊖ p .one } ≡ segmentS p ix x
+    pub two-above-0·9 : p .to0·9 < ix → ix < p .at1·7316 → ix < p .at1·2316 → record { i = 2; y = x ⊖ p .1·0 } ≡ segmentS p ix x
     unfolding segmentS
     two-above-0·9 h k l = simp (lt-leb _ _ h, lt-leb _ _ k, lt-leb _ _ l)
 
   -- ---- below2, where segment_at gives s and added gives a
   module _ (ix : ℕ) (x : Float) {a : Float} {s : Segment} (es : s ≡ segmentS p ix x) (ea : a ≡ addedS p s) where
-    pub below2-by : {l : Float} → l ≡ pick (leb ix (p .to0·9)) (neg (p .log x)) (p .zero) → l ⊕ a ≡ below2S p ix x
+    pub below2-by : {l : Float} → l ≡ pick (leb ix (p .to0·9)) (neg (p .log x)) (p .0·0) → l ⊕ a ≡ below2S p ix x
     unfolding below2S
     below2-by el = rw (el, ea, es)
 
@@ -73,17 +64,17 @@ module _ (p : Plan) where
     held = toZ-ofZ w32 i F ∙ ei
 
     pub by-product : {z l : Float} → z ≡ productS p (x ⊖ n) (toZ w32 (ofZ w32 i)) → l ≡ p .log z → leZ (pos 3) (toZ w32 (ofZ w32 i)) ≡ true
-        → p .half ⊗ (x ⊖ n) ⊕ (x ⊖ n) ⊗ P ⊘ Q ⊕ l ≡ below8S p x
+        → p .0·5 ⊗ (x ⊖ n) ⊕ (x ⊖ n) ⊗ P ⊘ Q ⊕ l ≡ below8S p x
     unfolding below8S
     by-product ez el h = rw (el, ez, eP, eQ, en, held) (simp (rw held at h))
 
-    pub by-itself : leZ (pos 3) (toZ w32 (ofZ w32 i)) ≡ false → p .half ⊗ (x ⊖ n) ⊕ (x ⊖ n) ⊗ P ⊘ Q ≡ below8S p x
+    pub by-itself : leZ (pos 3) (toZ w32 (ofZ w32 i)) ≡ false → p .0·5 ⊗ (x ⊖ n) ⊕ (x ⊖ n) ⊗ P ⊘ Q ≡ below8S p x
     unfolding below8S
     by-itself h = rw (eP, eQ, en, held) (simp (rw held at h))
 
   -- ---- size, where is_one_or_two gives b
   module _ (ix : ℕ) (x : Float) {b : Bool} (e : b ≡ p .isOneOrTwo ix x) where
-    pub one-or-two : b ≡ true → p .zero ≡ sizeS p ix x
+    pub one-or-two : b ≡ true → p .0·0 ≡ sizeS p ix x
     unfolding sizeS
     one-or-two t = simp (rw e at t)
 
@@ -101,7 +92,7 @@ module _ (p : Plan) where
       size-stirling h k l er = simp (rw e at t, le-ltb _ _ h, le-ltb _ _ k, lt-ltb _ _ l) er
 
       -- where log gives r
-      pub size-large : p .at2 ≤ ix → p .at8 ≤ ix → p .at2^58 ≤ ix → r ≡ p .log x → x ⊗ (r ⊖ p .one) ≡ sizeS p ix x
+      pub size-large : p .at2 ≤ ix → p .at8 ≤ ix → p .at2^58 ≤ ix → r ≡ p .log x → x ⊗ (r ⊖ p .1·0) ≡ sizeS p ix x
       unfolding sizeS
       size-large h k l er = simp (rw e at t, le-ltb _ _ h, le-ltb _ _ k, le-ltb _ _ l) (rw er)
 
@@ -111,17 +102,17 @@ module _ (p : Plan) where
 
   -- ---- reflected, where log gives l and size gives r
   module _ (ix : ℕ) (x t : Float) {v : Float} {s : ℤ} where
-    pub sine-zero : Ieee.eq t (p .zero) ≡ true → Is v s (record { value = p .one ⊘ (x ⊖ x); sign = pos 1 }) → Is v s (reflectedS p ix x t)
+    pub sine-zero : Ieee.eq t (p .0·0) ≡ true → Is v s (record { value = p .1·0 ⊘ (x ⊖ x); sign = pos 1 }) → Is v s (reflectedS p ix x t)
     unfolding reflectedS
     sine-zero z a = simp z a
 
-    module _ {l r : Float} (er : r ≡ sizeS p ix x) (z : Ieee.eq t (p .zero) ≡ false) where
-      pub sine-above : l ≡ p .log (p .PI ⊘ (t ⊗ x)) → Ieee.lt (p .zero) t ≡ true
+    module _ {l r : Float} (er : r ≡ sizeS p ix x) (z : Ieee.eq t (p .0·0) ≡ false) where
+      pub sine-above : l ≡ p .log (p .PI ⊘ (t ⊗ x)) → Ieee.lt (p .0·0) t ≡ true
           → Is v s (record { value = l ⊖ r; sign = negsuc 0 }) → Is v s (reflectedS p ix x t)
       unfolding reflectedS
       sine-above el h a = simp (z, h) (rw (el, er) at a)
 
-      pub sine-below : l ≡ p .log (p .PI ⊘ (neg t ⊗ x)) → Ieee.lt (p .zero) t ≡ false
+      pub sine-below : l ≡ p .log (p .PI ⊘ (neg t ⊗ x)) → Ieee.lt (p .0·0) t ≡ false
           → Is v s (record { value = l ⊖ r; sign = pos 1 }) → Is v s (reflectedS p ix x t)
       unfolding reflectedS
       sine-below el h a = simp (z, h) (rw (el, er) at a)

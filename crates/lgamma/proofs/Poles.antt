@@ -35,8 +35,8 @@ pub record Regular (p : Plan) : Type 0 where
   pub sine-odd : (m : ℕ) (e : ℤ) → T (fits (p .format) (fin false m e)) → T (le (fin false 1 (negsuc n)) (fin false m e)) → (m * up e % down e ≡ 0 → ⊥)
       → m * up e / down e % 2 ≡ 1 → T (positive (neg (p .sinPi (fin false m e))))
   -- two constants
-  pub zero-is : p .zero ≡ zero+
-  pub one-by-zero : div (p .format) (p .one) zero+ ≡ inf false
+  pub zero-is : p .0·0 ≡ zero+
+  pub one-by-zero : div (p .format) (p .1·0) zero+ ≡ inf false
 
 -- ---- what is above zero, and what is below it, by the tests of the Rust
 apart : (n : ℕ) (d : ℤ) → T (ltb 0 n) → 0 * down d < n * up d * 1

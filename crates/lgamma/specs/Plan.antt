@@ -1,20 +1,20 @@
--- lgamma_r as the Rust's lgamma_r.rs and lgammaf_r.rs have it. The two files are one text over their constants and cuts: a `Plan`.
+-- lgamma_r, as the Rust's lgamma_r.rs and lgammaf_r.rs have it. The two files are one text over their constants and cuts: a `Plan`.
 -- Regions in the order tested: not finite; tiny; negative, by the reflection with sin(pi x); exactly 1 and 2; below 2 by three formulas;
 -- below 8; below 2 ^ 58; above. x is the size from there on where the argument is negative.
+-- lgammaS is the whole; the others serve it, and are what the private functions of their names promise (segmentS that of `segment_at`).
 use Prim.Native.Nat.{ℕ}
 use mathlib.Core.Bool.{Bool}
 use mathlib.Core.List.{List}
 use lib.IntN.{ℤ, pos, negsuc}
-use lib.Dec.{ltb, leb, eqb}
-use lib.Signed.{leZ}
-use lib.Ieee as Ieee
 use lib.Ieee.{Float, Format, neg, ofInt}
-use Rattle.words.specs.Pick.{pick}
+use Rattle.words.specs.Pick.{if_then_else_}
+use Rattle.words.specs.Tests.{_<?_, _≤?_, _≥?_, _=?_, _≠?_, _≥ℤ?_, _>·_, _=·_}
+use Rattle.words.specs.Operators.{Operators, operators}
 use Rattle.words.specs.Bits.{signS}
 use Rattle.words.specs.Whole.{wholeS}
 use Rattle.poly.specs.Horner.{hornerS}
 
--- A log-gamma answer: the value and the sign of the gamma function
+-- A log-gamma answer: the value, and signgam, the sign of the gamma function
 pub record Answer : Type 0 where
   pub value : Float
   pub sign : ℤ
@@ -40,16 +40,16 @@ pub record Plan : Type 0 where
   -- log or logf, and sin_pi
   pub log : Float → Float
   pub sinPi : Float → Float
-  -- 0.0, 0.5, -0.5, 1.0 to 6.0
-  pub zero : Float
-  pub half : Float
-  pub minusHalf : Float
-  pub one : Float
-  pub two : Float
-  pub three : Float
-  pub four : Float
-  pub five : Float
-  pub six : Float
+  -- the literals
+  pub 0·0 : Float
+  pub 0·5 : Float
+  pub -0·5 : Float
+  pub 1·0 : Float
+  pub 2·0 : Float
+  pub 3·0 : Float
+  pub 4·0 : Float
+  pub 5·0 : Float
+  pub 6·0 : Float
   pub PI : Float
   pub TC : Float
   pub TF : Float
@@ -75,111 +75,116 @@ pub record Segment : Type 0 where
   pub y : Float
 
 module _ (p : Plan) where
-  infixl 6 _⊕_ _⊖_
-  infixl 7 _⊗_ _⊘_
-  abbrev _⊕_ : Float → Float → Float
-  x ⊕ y = Ieee.add (p .format) x y
-
-  abbrev _⊖_ : Float → Float → Float
-  x ⊖ y = Ieee.sub (p .format) x y
-
-  abbrev _⊗_ : Float → Float → Float
-  x ⊗ y = Ieee.mul (p .format) x y
-
-  abbrev _⊘_ : Float → Float → Float
-  x ⊘ y = Ieee.div (p .format) x y
+  infixl 65 _⊕_ _⊖_
+  infixl 70 _⊗_ _⊘_
+  open Plan p using (format, notFinite, tiny, at2, at8, at2^58, to0·9, at0·7316, at0·2316, at1·7316, at1·2316, log, sinPi)
+  open Plan p using (0·0, 0·5, -0·5, 1·0, 2·0, 3·0, 4·0, 5·0, 6·0, PI, TC, TF, TT, A·even, A·odd, T·0, T·1, T·2, U, «V», S, R, W0, W)
+  open Operators (operators (p .format)) using (_⊕_, _⊖_, _⊗_, _⊘_)
 
   abbrev horner : List Float → Float → Float
-  horner c x = hornerS (p .format) c x
+  horner c x = hornerS format c x
 
   -- i and y
   unfoldable pub segmentS : ℕ → Float → Segment
   segmentS ix x =
-      pick (leb ix (p .to0·9))
-      (pick (leb (p .at0·7316) ix) (record { i = 0; y = p .one ⊖ x })
-      (pick (leb (p .at0·2316) ix) (record { i = 1; y = x ⊖ (p .TC ⊖ p .one) })
-      (record { i = 2; y = x })))
-      (pick (leb (p .at1·7316) ix) (record { i = 0; y = p .two ⊖ x })
-      (pick (leb (p .at1·2316) ix) (record { i = 1; y = x ⊖ p .TC })
-      (record { i = 2; y = x ⊖ p .one })))
+      if ix ≤? to0·9 then
+      (if ix ≥? at0·7316 then record { i = 0; y = 1·0 ⊖ x }
+      else if ix ≥? at0·2316 then record { i = 1; y = x ⊖ (TC ⊖ 1·0) }
+      else record { i = 2; y = x })
+      else if ix ≥? at1·7316 then record { i = 0; y = 2·0 ⊖ x }
+      else if ix ≥? at1·2316 then record { i = 1; y = x ⊖ TC }
+      else record { i = 2; y = x ⊖ 1·0 }
 
   -- what each segment adds to r
   unfoldable pub zeroS : Float → Float
   zeroS y =
       let z = y ⊗ y in
-      let p1 = horner (p .A·even) z in
-      let p2 = z ⊗ horner (p .A·odd) z in
-      y ⊗ p1 ⊕ p2 ⊖ p .half ⊗ y
+      let p1 = horner A·even z in
+      let p2 = z ⊗ horner A·odd z in
+      let p = y ⊗ p1 ⊕ p2 in
+      p ⊖ 0·5 ⊗ y
 
   unfoldable pub oneS : Float → Float
   oneS y =
       let z = y ⊗ y in
       let w = z ⊗ y in
-      let p1 = horner (p .T·0) w in
-      let p2 = horner (p .T·1) w in
-      let p3 = horner (p .T·2) w in
-      p .TF ⊕ (z ⊗ p1 ⊖ (p .TT ⊖ w ⊗ (p2 ⊕ y ⊗ p3)))
+      let p1 = horner T·0 w in
+      let p2 = horner T·1 w in
+      let p3 = horner T·2 w in
+      let p = z ⊗ p1 ⊖ (TT ⊖ w ⊗ (p2 ⊕ y ⊗ p3)) in
+      TF ⊕ p
 
   unfoldable pub twoS : Float → Float
-  twoS y = p .minusHalf ⊗ y ⊕ y ⊗ horner (p .U) y ⊘ horner (p .«V») y
+  twoS y =
+      let p1 = y ⊗ horner U y in
+      let p2 = horner «V» y in
+      -0·5 ⊗ y ⊕ p1 ⊘ p2
 
   unfoldable pub addedS : Segment → Float
-  addedS s = pick (eqb (s .i) 0) (zeroS (s .y)) (pick (eqb (s .i) 1) (oneS (s .y)) (twoS (s .y)))
+  addedS s = if s .i =? 0 then zeroS (s .y) else if s .i =? 1 then oneS (s .y) else twoS (s .y)
 
   -- for x < 2.0
   unfoldable pub below2S : ℕ → Float → Float
-  below2S ix x = pick (leb ix (p .to0·9)) (neg (p .log x)) (p .zero) ⊕ addedS (segmentS ix x)
+  below2S ix x =
+      let r = if ix ≤? to0·9 then neg (log x) else 0·0 in
+      r ⊕ addedS (segmentS ix x)
 
   -- x < 8.0. z is the product of y + 6, y + 5, .., y + 2, from where i allows it
   unfoldable pub productS : Float → ℤ → Float
   productS y i =
-      let z = p .one in
-      let z = pick (leZ (pos 7) i) (z ⊗ (y ⊕ p .six)) z in
-      let z = pick (leZ (pos 6) i) (z ⊗ (y ⊕ p .five)) z in
-      let z = pick (leZ (pos 5) i) (z ⊗ (y ⊕ p .four)) z in
-      let z = pick (leZ (pos 4) i) (z ⊗ (y ⊕ p .three)) z in
-      z ⊗ (y ⊕ p .two)
+      let z = 1·0 in
+      let z = if i ≥ℤ? pos 7 then z ⊗ (y ⊕ 6·0) else z in
+      let z = if i ≥ℤ? pos 6 then z ⊗ (y ⊕ 5·0) else z in
+      let z = if i ≥ℤ? pos 5 then z ⊗ (y ⊕ 4·0) else z in
+      let z = if i ≥ℤ? pos 4 then z ⊗ (y ⊕ 3·0) else z in
+      z ⊗ (y ⊕ 2·0)
 
   unfoldable pub below8S : Float → Float
   below8S x =
       let i = wholeS x in
-      let y = x ⊖ ofInt (p .format) i in
-      let r = p .half ⊗ y ⊕ y ⊗ horner (p .S) y ⊘ horner (p .R) y in
-      pick (leZ (pos 3) i) (r ⊕ p .log (productS y i)) r
+      let y = x ⊖ ofInt format i in
+      let p = y ⊗ horner S y in
+      let q = horner R y in
+      let r = 0·5 ⊗ y ⊕ p ⊘ q in
+      if i ≥ℤ? pos 3 then r ⊕ log (productS y i) else r
 
   -- 8.0 <= x < 2**58
   unfoldable pub stirlingS : Float → Float
   stirlingS x =
-      let t = p .log x in
-      let z = p .one ⊘ x in
+      let t = log x in
+      let z = 1·0 ⊘ x in
       let y = z ⊗ z in
-      let w = p .W0 ⊕ z ⊗ horner (p .W) y in
-      (x ⊖ p .half) ⊗ (t ⊖ p .one) ⊕ w
+      let w = W0 ⊕ z ⊗ horner W y in
+      (x ⊖ 0·5) ⊗ (t ⊖ 1·0) ⊕ w
 
   -- r, of a positive x
   unfoldable pub sizeS : ℕ → Float → Float
   sizeS ix x =
-      pick (p .isOneOrTwo ix x) (p .zero)
-      (pick (ltb ix (p .at2)) (below2S ix x)
-      (pick (ltb ix (p .at8)) (below8S x)
-      (pick (ltb ix (p .at2^58)) (stirlingS x)
-      (x ⊗ (p .log x ⊖ p .one)))))
+      if p .isOneOrTwo ix x then 0·0
+      else if ix <? at2 then below2S ix x
+      else if ix <? at8 then below8S x
+      else if ix <? at2^58 then stirlingS x
+      else x ⊗ (log x ⊖ 1·0)
 
   -- a negative argument, of which x is the size: t is sin_pi(x)
   unfoldable pub reflectedS : ℕ → Float → Float → Answer
   reflectedS ix x t =
-      pick (Ieee.eq t (p .zero)) (record { value = p .one ⊘ (x ⊖ x); sign = pos 1 })
-      (pick (Ieee.lt (p .zero) t)
-      (record { value = p .log (p .PI ⊘ (t ⊗ x)) ⊖ sizeS ix x; sign = negsuc 0 })
-      (record { value = p .log (p .PI ⊘ (neg t ⊗ x)) ⊖ sizeS ix x; sign = pos 1 }))
+      if t =· 0·0 then record { value = 1·0 ⊘ (x ⊖ x); sign = pos 1 }
+      else if t >· 0·0 then
+      (let nadj = log (PI ⊘ (t ⊗ x)) in
+      record { value = nadj ⊖ sizeS ix x; sign = negsuc 0 })
+      else
+      let t = neg t in
+      let nadj = log (PI ⊘ (t ⊗ x)) in
+      record { value = nadj ⊖ sizeS ix x; sign = pos 1 }
 
   unfoldable pub lgammaS : Float → Answer
   lgammaS x =
-      let sign = signS (p .format) x in
+      let sign = signS format x in
       let ix = p .ix x in
-      pick (leb (p .notFinite) ix) (record { value = x ⊗ x; sign = pos 1 })
-      (pick (ltb ix (p .tiny))
-      (pick (eqb sign 0) (record { value = neg (p .log x); sign = pos 1 })
-      (record { value = neg (p .log (neg x)); sign = negsuc 0 }))
-      (pick (eqb sign 0) (record { value = sizeS ix x; sign = pos 1 })
-      (reflectedS ix (neg x) (p .sinPi (neg x)))))
+      if ix ≥? notFinite then record { value = x ⊗ x; sign = pos 1 }
+      else if ix <? tiny then
+      (if sign ≠? 0 then record { value = neg (log (neg x)); sign = negsuc 0 }
+      else record { value = neg (log x); sign = pos 1 })
+      else if sign ≠? 0 then reflectedS ix (neg x) (sinPi (neg x))
+      else record { value = sizeS ix x; sign = pos 1 }

@@ -1,4 +1,4 @@
--- The enum `Segment` of the code, by number and y.
+-- The enum `Segment` of the code, by number and y, for the private functions `segment_at` and `added`.
 use Rattle.lgamma.specs.declared.below2.Segment.{Segment}
 use Rattle.lgamma.specs.declared.below2.Segment.the-variants.{Zero, One, Two}
 use Rattle.lgamma.specs.Plan as Plan

@@ -1,7 +1,9 @@
-// lgamma_r of x >= 2.0: below 8.0 by the product of the numbers below x, then by Stirling's formula.
+// lgamma_r of x >= 2.0. Below 8: y is the fraction of x; lgamma(2 + y) = y/2 + y S(y)/R(y), with an error that msun gives as 2^-61.71, and
+// lgamma(1 + s) = log(s) + lgamma(s) adds the log of (y + 2) (y + 3) .. up to x - 1. Below 2^58 Stirling's formula,
+// (x - 0.5) (log(x) - 1) + W0 + W1/x + W2/x^3 + .. + W6/x^11, with an error that msun gives as 2^-58.74; from there on x (log(x) - 1).
 ghost use mathlib.Core.Path.{_≡_};
 ghost use lib.Ieee.{binary64, mul};
-ghost use Rattle.words.specs.Pick.{pick};
+ghost use Rattle.words.specs.Pick.{if_then_else_};
 ghost use Rattle.lgamma.specs.Plan.{productS, below8S, stirlingS};
 ghost use Rattle.lgamma.specs.Lgamma64.{lgamma64};
 use log::log;
@@ -44,7 +46,7 @@ const W: [f64; 6] = [
 
 // z, times the factor where the test holds.
 fn times(z: f64, factor: f64, test: bool) -> f64
-    ensures { λ r. ⌜ r ≡ pick test (mul binary64 z factor) z ⌝ }
+    ensures { λ r. ⌜ r ≡ (if test then mul binary64 z factor else z) ⌝ }
 {
     if test {
         return z * factor;

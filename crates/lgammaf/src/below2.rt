@@ -1,8 +1,10 @@
-// lgammaf_r of x < 2.0, by three formulas.
+// lgammaf_r of x < 2.0. Up to 0.9 lgamma(x) = lgamma(x + 1) - log(x), and x + 1 stands for x. Then by the Rust's i, with y:
+// 0, near 2: y = 2 - x, a polynomial in y (A0 to A11) less y/2; 1, near the least value, which lies at TC: y = x - TC, TF + y^2 times a polynomial
+// (T0 to T14), TF with its tail TT; 2, near 1: y = x - 1, -y/2 + y U(y)/V(y). The cuts are 1.7316 and 1.2316, and each less 1.
 ghost use mathlib.Core.Path.{_≡_};
-ghost use lib.Dec.{leb};
 ghost use lib.Ieee.{neg};
-ghost use Rattle.words.specs.Pick.{pick};
+ghost use Rattle.words.specs.Pick.{if_then_else_};
+ghost use Rattle.words.specs.Tests.{_≤?_};
 ghost use Rattle.lgamma.specs.Plan.{segmentS, zeroS, oneS, twoS, addedS, below2S};
 ghost use Rattle.lgammaf.specs.Lgammaf.{lgamma32};
 ghost use Rattle.lgammaf.specs.Segment.{segmentOf};
@@ -161,7 +163,7 @@ fn added(s: Segment) -> f32
 
 // Where r starts.
 fn start(ix: u32, x: f32) -> f32
-    ensures { λ r. ⌜ r ≡ pick (leb ix (lgamma32 .to0·9)) (neg (lgamma32 .log x)) (lgamma32 .zero) ⌝ }
+    ensures { λ r. ⌜ r ≡ (if ix ≤? lgamma32 .to0·9 then neg (lgamma32 .log x) else lgamma32 .0·0) ⌝ }
 {
     if ix <= UP_TO_0_9 {
         /* lgamma(x) = lgamma(x+1)-log(x) */

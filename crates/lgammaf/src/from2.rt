@@ -1,7 +1,7 @@
-// lgammaf_r of x >= 2.0: below 8.0 by the product of the numbers below x, then by Stirling's formula.
+// lgammaf_r of x >= 2.0, by lgamma_r's formulas: below 8 by the product of the numbers below x, then by Stirling's.
 ghost use mathlib.Core.Path.{_≡_};
 ghost use lib.Ieee.{binary32, mul};
-ghost use Rattle.words.specs.Pick.{pick};
+ghost use Rattle.words.specs.Pick.{if_then_else_};
 ghost use Rattle.lgamma.specs.Plan.{productS, below8S, stirlingS};
 ghost use Rattle.lgammaf.specs.Lgammaf.{lgamma32};
 use log::single::logf;
@@ -44,7 +44,7 @@ const W: [f32; 6] = [
 
 // z, times the factor where the test holds.
 fn times(z: f32, factor: f32, test: bool) -> f32
-    ensures { λ r. ⌜ r ≡ pick test (mul binary32 z factor) z ⌝ }
+    ensures { λ r. ⌜ r ≡ (if test then mul binary32 z factor else z) ⌝ }
 {
     if test {
         return z * factor;

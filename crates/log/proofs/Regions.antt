@@ -33,11 +33,11 @@ module _ (p : Plan) (x : Float) (ui hx lx : ℕ) (i : Pattern p x ui hx lx) wher
       go true e = refl
       go false e = le-leb _ _ (h (ltb-false _ _ e))
 
-  pub at-zero : (p .normal ≤ hx → 2 ^ 31 ≤ hx) → ui % top (p .format) ≡ 0 → div (p .format) (p .minusOne) (mul (p .format) x x) ≡ logS p x
+  pub at-zero : (p .normal ≤ hx → 2 ^ 31 ≤ hx) → ui % top (p .format) ≡ 0 → div (p .format) (p .-1·0) (mul (p .format) x x) ≡ logS p x
   unfolding logS
   at-zero h z = rw (sym (i .all), sym (i .upper)) (simp (apart h, eq-eqb _ _ z))
 
-  pub negative : (ui % top (p .format) ≡ 0 → ⊥) → 2 ^ 31 ≤ hx → div (p .format) (sub (p .format) x x) (p .zero) ≡ logS p x
+  pub negative : (ui % top (p .format) ≡ 0 → ⊥) → 2 ^ 31 ≤ hx → div (p .format) (sub (p .format) x x) (p .0·0) ≡ logS p x
   unfolding logS
   negative z h = rw (sym (i .all), sym (i .upper)) (simp (apart (λ _. h)) (simp (le-leb _ _ h, ne-eqb _ _ z)))
 
@@ -58,7 +58,7 @@ module _ (p : Plan) (x : Float) (ui hx lx : ℕ) (i : Pattern p x ui hx lx) wher
     unfolding logS
     not-finite n = rw (sym (i .all), sym (i .upper)) (simp (le-ltb _ _ h, lt-leb _ _ s, le-leb _ _ n))
 
-    pub at-one : hx < p .notFinite → hx ≡ p .at1 → lx ≡ 0 → p .zero ≡ logS p x
+    pub at-one : hx < p .notFinite → hx ≡ p .at1 → lx ≡ 0 → p .0·0 ≡ logS p x
     unfolding logS
     at-one n o z =
         rw (sym (i .all), sym (i .upper), sym (i .lower))

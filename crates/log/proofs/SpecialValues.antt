@@ -26,7 +26,7 @@ abbrev pub plan : Format → Plan
 plan binary64 = log64
 plan binary32 = log32
 
-pub log-one : (f : Format) → logS (plan f) (plan f .one) ≡ ofBits f 0
+pub log-one : (f : Format) → logS (plan f) (plan f .1·0) ≡ ofBits f 0
 unfolding logS ofBits toBits
 log-one binary64 = refl
 log-one binary32 = refl

@@ -1,4 +1,8 @@
-// The natural logarithm in f64, as the Rust's log.rs has it; in f32 in `single`.
+// log, the natural logarithm, after FreeBSD's msun. Reduction on the bits: x = 2^k (1 + f) with 1 + f from sqrt(2)/2 to sqrt(2).
+// Approximation: with s = f / (2 + f), log(1 + f) = 2 s + s R, where R is LG1 s^2 + .. + LG7 s^14 with an error that msun gives as 2^-58.45; its
+// even and its odd coefficients are summed apart. 2 s is f - hfsq + s hfsq with hfsq = f^2 / 2, and ln2 is LN2_HI + LN2_LO, so that
+// log(x) = s (hfsq + R) + k LN2_LO - hfsq + f + k LN2_HI, from the small terms on. msun's analysis gives less than one unit in the last place.
+// Regions: +-0 gives -inf, below 0 NaN; a subnormal number is scaled up by 2^54; infinity and NaN stay; 1 gives +0. In f32: module `single`.
 pub mod single;
 
 ghost use Prim.Native.Nat.{_^_, _<_};

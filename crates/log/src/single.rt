@@ -1,4 +1,5 @@
-// The natural logarithm in f32, as the Rust's logf.rs has it.
+// logf: log's course with constants of its own: four coefficients, with an error that msun gives as 2^-34.24; a subnormal number is scaled up
+// by 2^25.
 ghost use Prim.Native.Nat.{_^_, _<_};
 ghost use mathlib.Core.Path.{_≡_};
 ghost use lib.IntN.{natAbs};
@@ -28,7 +29,7 @@ const LG_ODD: [f32; 2] = [
 ];
 
 // log of x * 2 ^ k, for an x from sqrt(2)/2 to sqrt(2); f32 holds k.
-fn nearf(x: f32, k: i32) -> f32
+fn near(x: f32, k: i32) -> f32
     requires { ⌜ natAbs k < 2 ^ 24 ⌝ }
     ensures { λ r. ⌜ r ≡ nearS log32 x k ⌝ }
 {
@@ -45,14 +46,14 @@ fn nearf(x: f32, k: i32) -> f32
 }
 
 // Reduces the number whose pattern is ix into [sqrt(2)/2, sqrt(2)].
-fn reducedf(ix: u32, k: i32) -> f32
+fn reduced(ix: u32, k: i32) -> f32
     requires { ⌜ natAbs k < 64 ⌝ }
     ensures { λ r. ⌜ r ≡ reducedS log32 ix k ⌝ }
 {
     let ix = ix as u64 + (0x3f80_0000 - 0x3f35_04f3);
     let k = exponent(k, ix / 0x80_0000, 0x7f);
     let ix = ix % 0x80_0000 + 0x3f35_04f3;
-    nearf(of_bits_f32(ix as u32), k)
+    near(of_bits_f32(ix as u32), k)
 }
 
 pub fn logf(x: f32) -> f32
@@ -66,7 +67,7 @@ pub fn logf(x: f32) -> f32
         if ix >= 0x8000_0000 {
             return (x - x) / 0.0;
         }
-        return reducedf(bits_of_f32(x * X1P25), -25);
+        return reduced(bits_of_f32(x * X1P25), -25);
     }
     if ix >= 0x7f80_0000 {
         return x;
@@ -74,5 +75,5 @@ pub fn logf(x: f32) -> f32
     if ix == 0x3f80_0000 {
         return 0.0;
     }
-    reducedf(ix, 0)
+    reduced(ix, 0)
 }

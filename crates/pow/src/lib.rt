@@ -1,8 +1,11 @@
-// pow: x to the power of y. The special cases are here; log2 and exp2 are the two halves of the rest.
+// pow: x to the power of y, after FreeBSD's msun: 2^(y log2|x|), with log2|x| in two parts (pow_log), the product in two parts and 2 to its power
+// (pow_exp). msun calls the answer nearly rounded. Here are the special cases, in the Rust's order: y = 0 and x = 1 give 1; a NaN; y infinite,
+// +-1, 2 or 0.5; x = +-0, +-inf or +-1; x < 0, where a y that is no whole number gives NaN and an odd one a minus sign; |y| beyond 2^31, where
+// all but an x close to 1 overflows or vanishes.
 ghost use mathlib.Core.Path.{_≡_};
 ghost use mathlib.Core.Bool.{not, _&&_, _||_};
 ghost use Prim.Native.Nat.{_%_, _^_, _<_};
-ghost use lib.Dec.{eqb};
+ghost use Rattle.words.specs.Tests.{_=?_};
 ghost use Rattle.pow.specs.Pow.{nanWords, parityS, yisintS, hugeS, signedS, plainS, turnedS, specialXS, finiteS, infiniteS, specialYS, powAtS, powS};
 use pow_exp::HUGE;
 use pow_exp::TINY;
@@ -141,7 +144,7 @@ fn special_x(x: f64, hx: u32, hy: u32, yisint: u32) -> f64
 
 // Whether ix and lx are the words of 0, inf or 1.
 fn is_special(ix: u32, lx: u32) -> bool
-    ensures { λ r. ⌜ r ≡ (eqb lx 0 && (eqb ix 0x7FF00000 || eqb ix 0 || eqb ix 0x3FF00000)) ⌝ }
+    ensures { λ r. ⌜ r ≡ (lx =? 0 && (ix =? 0x7FF00000 || ix =? 0 || ix =? 0x3FF00000)) ⌝ }
 {
     if lx != 0 {
         return false;
@@ -216,7 +219,7 @@ fn special_y(x: f64, y: f64, hx: u32, lx: u32, hy: u32, ly: u32) -> f64
 
 // Whether h and l are the words of the number with the high word w and the low word 0.
 fn is_pattern(h: u32, l: u32, w: u32) -> bool
-    ensures { λ r. ⌜ r ≡ (eqb h w && eqb l 0) ⌝ }
+    ensures { λ r. ⌜ r ≡ (h =? w && l =? 0) ⌝ }
 {
     if h == w { l == 0 } else { false }
 }

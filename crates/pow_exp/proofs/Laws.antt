@@ -34,8 +34,8 @@ module _ (z : Float) (n : ℤ) (j : ℕ) (r : Float) (is : j ≡ (highWordS z + 
 module _ (s p·h p·l : Float) (j d : ℕ) (t f z : Float) (far : 0x3FE00000 < j % 2 ^ 31) (is-d : d ≡ 20 - (field j - 0x3FF)) (is-t : t ≡ withHighWordS (bits 0) ((j + half j) / 2 ^ d * 2 ^ d)) (is-f : f ≡ fractionS (p·h ⊖ t) p·l) where
   pub rounded-up : j < 2 ^ 31 → z ≡ scaledS f (pos (((j + half j) % 2 ^ 20 + 2 ^ 20) / 2 ^ d)) → s ⊗ z ≡ exp2S s p·h p·l j
   unfolding exp2S
-  rounded-up h q = simp (lt-leb _ _ far, lt-leb _ _ h) (rw (q, is-f, is-t, is-d))
+  rounded-up h q = simp (lt-ltb _ _ far, lt-leb _ _ h) (rw (q, is-f, is-t, is-d))
 
   pub rounded-down : 2 ^ 31 ≤ j → z ≡ scaledS f (negℤ (pos (((j + half j) % 2 ^ 20 + 2 ^ 20) / 2 ^ d))) → s ⊗ z ≡ exp2S s p·h p·l j
   unfolding exp2S
-  rounded-down h q = simp (lt-leb _ _ far, le-leb _ _ h) (rw (q, is-f, is-t, is-d))
+  rounded-down h q = simp (lt-ltb _ _ far, le-leb _ _ h) (rw (q, is-f, is-t, is-d))

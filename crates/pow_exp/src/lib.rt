@@ -1,4 +1,7 @@
-// 2 to the power of y times log2 of |x|, with a sign: the second half of pow.rs.
+// s times 2 to the power of y (t1 + t2): the second half of pow.rs, after FreeBSD's msun. y is y1 + (y - y1), y1 with a cleared low word, so that
+// p_h = y1 t1 is exact; p_l is the rest, and z their sum. 2^z overflows from 1024 on and vanishes from -1075 down; at these two p_l decides.
+// Between, n is the whole number nearest to z, 2^(z - n) is e^((z - n) ln2) by exp's polynomial with ln2 in two parts, and n goes into the
+// exponent's field, or by scalbn where the answer is subnormal.
 ghost use mathlib.Core.Path.{_≡_};
 ghost use Prim.Native.Nat.{_%_, _^_, _≤_};
 ghost use Rattle.pow_exp.specs.Exp2.{word, fractionS, scaledS, exp2S, largeS, smallS, boundedS, productS};

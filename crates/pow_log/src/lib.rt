@@ -1,10 +1,14 @@
-// log2 of |x| in two parts: the first half of pow.rs.
+// log2 of |x| in two parts, t1 + t2, where t1 has a cleared low word: the first half of pow.rs, after FreeBSD's msun.
+// Reduction: |x| = 2^n ax. bp, to which ax is near, is 1 for ax up to sqrt(3/2), 1.5 up to sqrt(3), and 1 again for the half of an ax beyond.
+// Approximation: with ss = (ax - bp) / (ax + bp), log(ax / bp) = 2 (ss + ss^3/3 + ..), by L1 to L6 in ss^2; CP = 2 / (3 ln2) brings it to base
+// 2, and DP = log2(bp) and n are added. Each value is a high part with a cleared low word and a low part, so that products of two high parts
+// are exact. For a huge y and |1 - x| up to 2^-20 near_one has log(1 + t) = t - t^2/2 + t^3/3 - t^4/4.
 ghost use mathlib.Core.Path.{_≡_};
 ghost use Prim.Native.Nat.{ℕ, _≤_};
-ghost use lib.Dec.{eqb};
 ghost use lib.IntN.{pos, negℤ, _-ℤ_};
 ghost use lib.Ieee.{Float};
-ghost use Rattle.words.specs.Pick.{pick};
+ghost use Rattle.words.specs.Pick.{if_then_else_};
+ghost use Rattle.words.specs.Tests.{_=?_};
 ghost use Rattle.pow_log.specs.Log2.{nearOneS, seriesS, intervalS, normalS, log2S};
 use poly::horner;
 use words::bits::clear_low_word;
@@ -99,7 +103,7 @@ fn exponent(e: u32, bias: u32) -> i32
 
 // a where k is 0, else b.
 fn at(k: u32, a: f64, b: f64) -> f64
-    ensures { λ r. ⌜ r ≡ pick (eqb k 0) a b ⌝ }
+    ensures { λ r. ⌜ r ≡ (if k =? 0 then a else b) ⌝ }
 {
     if k == 0 { a } else { b }
 }

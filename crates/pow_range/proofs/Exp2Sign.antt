@@ -5,12 +5,12 @@ use mathlib.Core.Bool.{Bool, true, false}
 use native.Mathlib.Omega.{arith}
 use native.Mathlib.Nat.{mod-lt}
 use lib.IntN.{ℤ, pos, negsuc, negℤ}
-use lib.Dec.{T, lit<, leb}
+use lib.Dec.{T, lit<, leb, ltb}
 use lib.Ieee.{Float, nan, inf, fin, binary64, up, down, toBits, ofBits, fits, le, mul}
 use lib.Ieee.Bits.{ofBits-toBits}
 use lib.Ieee.Exact.{HasValue}
 use lib.Ieee.Fits.{down-pos, sub-fits}
-use borrow.Author.Tests.{lt-leb, le-ltb, leb-true, leb-false}
+use borrow.Author.Tests.{lt-leb, le-ltb, ltb-true, ltb-false}
 use Rattle.rounding.proofs.Signed.{Signed, signed-of-le, round-signed}
 use Rattle.rounding.proofs.BitOrder.{bitVal, endless, bits-val, le-bits, toBits-under}
 use Rattle.rounding.proofs.Order.{between-finite}
@@ -126,10 +126,10 @@ module _ (p·l p·h : Float) (s : Bool) (A : ℕ) (u : Bool) (B : ℕ) (vl : Has
   abbrev j : ℕ
   j = highWordS (p·l ⊕ p·h)
 
-  near-plus : leb (j % 0x80000000) 0x3FE00000 ≡ true → Signed false (exp2S one p·h p·l j)
+  near-plus : ltb 0x3FE00000 (j % 0x80000000) ≡ false → Signed false (exp2S one p·h p·l j)
   unfolding exp2S
   near-plus e =
-      let i = near-range p·l p·h s A u B vl vh small (leb-true (j % 0x80000000) 0x3FE00000 e) in
+      let i = near-range p·l p·h s A u B vl vh small (ltb-false 0x3FE00000 (j % 0x80000000) e) in
       simp e (times-one (fractionS p·h p·l) (pos 0) (scaled-up (fractionS p·h p·l) (fraction-fits p·h p·l) i 0 (zero-le)))
 
   -- n, as the definition has it
@@ -139,22 +139,22 @@ module _ (p·l p·h : Float) (s : Bool) (A : ℕ) (u : Bool) (B : ℕ) (vl : Has
       up : j % 0x80000000 ≤ 0x4090CC00
       up = omega (arith, word-high p·l p·h s A u B vl vh small)
 
-  far-plus : leb (j % 0x80000000) 0x3FE00000 ≡ false → (t : Bool) → leb 0x80000000 j ≡ t → Signed false (exp2S one p·h p·l j)
+  far-plus : ltb 0x3FE00000 (j % 0x80000000) ≡ true → (t : Bool) → leb 0x80000000 j ≡ t → Signed false (exp2S one p·h p·l j)
   unfolding exp2S
   far-plus e false f =
-      let low = leb-false (j % 0x80000000) 0x3FE00000 e in
+      let low = ltb-true 0x3FE00000 (j % 0x80000000) e in
       let r = far-range p·l p·h s A u B vl vh small low in
       let z = fractionS (p·h ⊖ tOfWord j) p·l in
       simp (e, f) (subst (λ (n : ℕ). Signed false (one ⊗ scaledS z (pos n))) (sym (n-is low)) (times-one z (pos (amount j)) (scaled-up z (fraction-fits (p·h ⊖ tOfWord j) p·l) (r .0) (amount j) (r .1))))
   far-plus e true f =
-      let low = leb-false (j % 0x80000000) 0x3FE00000 e in
+      let low = ltb-true 0x3FE00000 (j % 0x80000000) e in
       let r = far-range p·l p·h s A u B vl vh small low in
       let z = fractionS (p·h ⊖ tOfWord j) p·l in
       simp (e, f) (subst (λ (n : ℕ). Signed false (one ⊗ scaledS z (negℤ (pos n)))) (sym (n-is low)) (times-one z (negℤ (pos (amount j))) (scaled-down z (fraction-fits (p·h ⊖ tOfWord j) p·l) (r .0) (amount j) (r .1))))
 
   pub exp2-plus : Signed false (exp2S one p·h p·l (highWordS (p·l ⊕ p·h)))
-  exp2-plus = go (leb (j % 0x80000000) 0x3FE00000) refl
+  exp2-plus = go (ltb 0x3FE00000 (j % 0x80000000)) refl
     where
-      go : (t : Bool) → leb (j % 0x80000000) 0x3FE00000 ≡ t → Signed false (exp2S one p·h p·l (highWordS (p·l ⊕ p·h)))
-      go true e = near-plus e
-      go false e = far-plus e (leb 0x80000000 j) refl
+      go : (t : Bool) → ltb 0x3FE00000 (j % 0x80000000) ≡ t → Signed false (exp2S one p·h p·l (highWordS (p·l ⊕ p·h)))
+      go false e = near-plus e
+      go true e = far-plus e (leb 0x80000000 j) refl

@@ -106,8 +106,8 @@ module _ (x y : Float) (hx lx hy ly : ℕ) (a : 0x40160000 ≤ hx) (b : hx ≤ 0
   unfolding specialYS
   special-plus =
       simp (ne-eqb (hy % 0x80000000) 0x7FF00000 (λ e. omega arith), and-false)
-      (pick-plus (eqb ly 0 && eqb (hy % 0x80000000) 0x3FF00000) (pick (leb 0x80000000 hy) (one ⊘ x) x) _
-      (pick-plus (leb 0x80000000 hy) (one ⊘ x) x (inverse-plus x i) p)
+      (pick-plus (eqb ly 0 && eqb (hy % 0x80000000) 0x3FF00000) (pick (not (leb 0x80000000 hy)) x (one ⊘ x)) _
+      (pick-plus (not (leb 0x80000000 hy)) x (one ⊘ x) p (inverse-plus x i))
       (pick-plus (eqb ly 0 && eqb hy 0x40000000) (x ⊗ x) _ (square-plus x i)
       (pick-plus (eqb ly 0 && eqb hy 0x3FE00000 && not (leb 0x80000000 hx)) (sqrtS x) _ (root-plus x p X) finite-plus)))
 

@@ -1,4 +1,4 @@
--- From expMin to expMax scalbn is one product by a power of 2 (`one-product`), and the powers 2 ^ -(j + 1) are in order (`power-le`).
+-- From exp·min to exp·max scalbn is one product by a power of 2 (`one-product`), and the powers 2 ^ -(j + 1) are in order (`power-le`).
 -- Both in either format. Assumes nothing.
 use mathlib.Core.Path.{_≡_, ap}
 use Prim.Native.Nat.{ℕ, suc, _-_, _*_, _+_, _<_, _≤_, suc-le-suc}
@@ -10,11 +10,11 @@ use lib.IntN.{ℤ, negsuc, natAbs}
 use lib.Signed.{ltZ}
 use lib.Ieee.{Float, Format, emax, hid, ofBits, mul, le}
 use Rattle.rounding.proofs.BitOrder.{hid-pos, bits-le}
-use Rattle.scalbn.specs.Scalbn.{expMin, expMax, power2, scalbnS}
+use Rattle.scalbn.specs.Scalbn.{exp·min, exp·max, power2, scalbnS}
 use Rattle.scalbn.proofs.Exponents.{sub-above}
 
 -- an exponent between the bounds takes one product
-pub one-product : (f : Format) (x : Float) (n : ℤ) → ltZ (expMax f) n ≡ false → ltZ n (expMin f) ≡ false → scalbnS f x n ≡ mul f x (power2 f n)
+pub one-product : (f : Format) (x : Float) (n : ℤ) → ltZ (exp·max f) n ≡ false → ltZ n (exp·min f) ≡ false → scalbnS f x n ≡ mul f x (power2 f n)
 unfolding scalbnS
 one-product f x n h k = simp (h, k)
 

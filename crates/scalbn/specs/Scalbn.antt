@@ -1,47 +1,69 @@
--- scalbn: x times 2 ^ n, as the Rust's generic/scalbn.rs works it out, in at most three rounded products and in either format.
+-- scalbn: x times 2 ^ n, as the Rust's generic/scalbn.rs works it out, in at most three rounded products and in either format f.
+-- scalbnS is what `scalbn` and `scalbnf` promise; power2, upS and downS serve it, and are what the private `power`, `up` and `down` promise.
 use Prim.Native.Nat.{_-_, _*_}
 use lib.IntN.{ℤ, pos, negℤ, natAbs, _+ℤ_, _-ℤ_}
-use lib.Signed.{ltZ}
-use lib.Ieee.{Float, Format, prec, emax, hid, ofBits, mul}
-use Rattle.words.specs.Pick.{pick}
+use lib.Ieee.{Float, Format, prec, emax, hid, ofBits}
+use Rattle.words.specs.Pick.{if_then_else_}
+use Rattle.words.specs.Tests.{_<ℤ?_, _>ℤ?_}
+use Rattle.words.specs.Operators.{Operators, operators}
 
--- F::EXP_MAX and F::EXP_MIN
-abbrev pub expMax : Format → ℤ
-expMax f = pos (emax f)
+module _ (f : Format) where
+  infixl 70 _⊗_
+  open Operators (operators f) using (_⊗_)
 
-abbrev pub expMin : Format → ℤ
-expMin f = negℤ (pos (emax f - 1))
+  -- exp_max, exp_min and sig_total_bits
+  abbrev pub exp·max : ℤ
+  exp·max = pos (emax f)
 
--- F::from_parts(false, EXP_BIAS + n, 0): 2 ^ n, for an n from EXP_MIN to EXP_MAX
-abbrev pub power2 : Format → ℤ → Float
-power2 f n = ofBits f (natAbs (pos (emax f) +ℤ n) * hid f)
+  abbrev pub exp·min : ℤ
+  exp·min = negℤ (pos (emax f - 1))
 
--- n > exp_max: x is scaled by 2 ^ exp_max once or twice before
-unfoldable pub upS : Format → Float → ℤ → Float
-upS f x n =
-    let x1 = mul f x (power2 f (expMax f)) in
-    let n1 = n -ℤ expMax f in
-    let x2 = mul f x1 (power2 f (expMax f)) in
-    let n2 = n1 -ℤ expMax f in
-    pick (ltZ (expMax f) n1)
-    (mul f x2 (power2 f (pick (ltZ (expMax f) n2) (expMax f) n2)))
-    (mul f x1 (power2 f n1))
+  abbrev pub sig·total·bits : ℤ
+  sig·total·bits = pos (prec f)
 
--- n < exp_min: x is scaled by 2 ^ (exp_min + sig_total_bits) once or twice before, which leaves no x subnormal
-unfoldable pub downS : Format → Float → ℤ → Float
-downS f x n =
-    let scale = mul f (power2 f (expMin f)) (power2 f (pos (prec f))) in
-    let add = negℤ (expMin f) -ℤ pos (prec f) in
-    let x1 = mul f x scale in
-    let n1 = n +ℤ add in
-    let x2 = mul f x1 scale in
-    let n2 = n1 +ℤ add in
-    pick (ltZ n1 (expMin f))
-    (mul f x2 (power2 f (pick (ltZ n2 (expMin f)) (expMin f) n2)))
-    (mul f x1 (power2 f n1))
+  -- F::from_parts(false, EXP_BIAS + n, 0): 2 ^ n, for an n from exp_min to exp_max
+  abbrev pub power2 : ℤ → Float
+  power2 n = ofBits f (natAbs (pos (emax f) +ℤ n) * hid f)
 
-unfoldable pub scalbnS : Format → Float → ℤ → Float
-scalbnS f x n =
-    pick (ltZ (expMax f) n) (upS f x n)
-    (pick (ltZ n (expMin f)) (downS f x n)
-    (mul f x (power2 f n)))
+  -- n > exp_max: x is scaled by 2 ^ exp_max once or twice before
+  unfoldable pub upS : Float → ℤ → Float
+  upS x n =
+      let f·exp·max = power2 exp·max in
+      let x = x ⊗ f·exp·max in
+      let n = n -ℤ exp·max in
+      if n >ℤ? exp·max then
+      (let x = x ⊗ f·exp·max in
+      let n = n -ℤ exp·max in
+      let n = if n >ℤ? exp·max then exp·max else n in
+      let scale = power2 n in
+      x ⊗ scale)
+      else
+      let scale = power2 n in
+      x ⊗ scale
+
+  -- n < exp_min: x is scaled by 2 ^ (exp_min + sig_total_bits) once or twice before; n is then still below -sig_total_bits
+  unfoldable pub downS : Float → ℤ → Float
+  downS x n =
+      let f·exp·min = power2 exp·min in
+      let f·pow·subnorm = power2 sig·total·bits in
+      let mul = f·exp·min ⊗ f·pow·subnorm in
+      let add = negℤ exp·min -ℤ sig·total·bits in
+      let x = x ⊗ mul in
+      let n = n +ℤ add in
+      if n <ℤ? exp·min then
+      (let x = x ⊗ mul in
+      let n = n +ℤ add in
+      let n = if n <ℤ? exp·min then exp·min else n in
+      let scale = power2 n in
+      x ⊗ scale)
+      else
+      let scale = power2 n in
+      x ⊗ scale
+
+  unfoldable pub scalbnS : Float → ℤ → Float
+  scalbnS x n =
+      if n >ℤ? exp·max then upS x n
+      else if n <ℤ? exp·min then downS x n
+      else
+      let scale = power2 n in
+      x ⊗ scale

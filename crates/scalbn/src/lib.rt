@@ -1,4 +1,6 @@
-// scalbn: x times 2^n. In f32: single.
+// scalbn: x times 2^n, for every n. Where 2^n is no normal number n is taken in steps: above, x is first multiplied by 2^1023, once or twice;
+// below, by 2^(-1022 + 53), once or twice. Then n is still below -53, so that a product which was rounded there vanishes in the last one, and
+// nothing is rounded twice. What is left of n is cut to the exponents of the normal numbers. In f32: module `single`.
 pub mod single;
 
 ghost use mathlib.Core.Path.{_≡_};
@@ -47,11 +49,11 @@ fn down(x: f64, n: i32) -> f64
     requires { ⌜ ltZ n (negsuc 1021) ≡ true ⌝ }
     ensures { λ r. ⌜ r ≡ downS binary64 x n ⌝ }
 {
-    let scale = power(EXP_MIN) * power(SIG_TOTAL_BITS);
-    let x1 = x * scale;
+    let mul = power(EXP_MIN) * power(SIG_TOTAL_BITS);
+    let x1 = x * mul;
     let n1 = n + ADD;
     if n1 < EXP_MIN {
-        let x2 = x1 * scale;
+        let x2 = x1 * mul;
         let n2 = n1 + ADD;
         if n2 < EXP_MIN {
             return x2 * power(EXP_MIN);

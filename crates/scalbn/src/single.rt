@@ -1,4 +1,4 @@
-// scalbnf: x times 2^n, in f32.
+// scalbnf: x times 2^n in f32, by scalbn's course with 2^127 and 2^(-126 + 24).
 ghost use mathlib.Core.Path.{_≡_};
 ghost use mathlib.Core.Bool.{true, false};
 ghost use lib.IntN.{ℤ, pos, negsuc};
@@ -45,11 +45,11 @@ fn down(x: f32, n: i32) -> f32
     requires { ⌜ ltZ n (negsuc 125) ≡ true ⌝ }
     ensures { λ r. ⌜ r ≡ downS binary32 x n ⌝ }
 {
-    let scale = power(EXP_MIN) * power(SIG_TOTAL_BITS);
-    let x1 = x * scale;
+    let mul = power(EXP_MIN) * power(SIG_TOTAL_BITS);
+    let x1 = x * mul;
     let n1 = n + ADD;
     if n1 < EXP_MIN {
-        let x2 = x1 * scale;
+        let x2 = x1 * mul;
         let n2 = n1 + ADD;
         if n2 < EXP_MIN {
             return x2 * power(EXP_MIN);

@@ -21,7 +21,7 @@ use Rattle.rounding.proofs.Exact.{round-at-most, round-at-least}
 use Rattle.words.specs.Floor.{floorS, below}
 use Rattle.words.specs.Whole.{wholeS}
 use Rattle.sinpi.specs.Sinpi.{turnS}
-use Rattle.sinpi.specs.Sinpif.{turnfS}
+use Rattle.sinpi.specs.Sinpif as Sinpif
 use Rattle.sinpi.proofs.Exactness.{half+, turnOf}
 
 -- x is not below zero: it has no minus sign, or is a zero or a NaN
@@ -106,8 +106,8 @@ pub turn-not-below : (x : Float) → NotBelow (turnS x)
 unfolding turnS ofBits
 turn-not-below x = turn-of-not-below binary64 x
 
-pub turnf-not-below : (x : Float) → NotBelow (turnfS x)
-unfolding turnfS ofBits
+pub turnf-not-below : (x : Float) → NotBelow (Sinpif.turnS x)
+unfolding Sinpif.turnS ofBits
 turnf-not-below x = turn-of-not-below binary32 x
 
 -- ---- the whole part of what is not below zero

@@ -29,7 +29,8 @@ use Rattle.trig.specs.KCosf.{kCosfS}
 use Rattle.trig.proofs.CosinefRange.{cosf-range}
 use Rattle.trig.proofs.SinefRange.{tiny, sinf-range, sinf-odd}
 use Rattle.sinpi.specs.Sinpi.{PI, turnS, quarterS}
-use Rattle.sinpi.specs.Sinpif.{turnfS, quarterfS, sinpifS}
+use Rattle.sinpi.specs.Sinpif.{sinpifS}
+use Rattle.sinpi.specs.Sinpif as Sinpif
 use Rattle.sinpi.proofs.Exactness.{mod-scale, turnOf, turn-value, turn-is, quarter-value}
 use Rattle.sinpi.proofs.Octants.{Kernels, case, folded, reduced, turn-of}
 use Rattle.sinpi.proofs.Wholes.{fraction-deep, few, no-rest, whole-turn}
@@ -122,19 +123,19 @@ same-turn m e F h w =
     cross Y K g = simp (mul-assoc, mul-comm, mul-left-comm)
 
 -- ---- so it is sinpi over k_sinf and k_cosf
-turnf-of : (x : Float) → turnfS x ≡ turnOf binary32 x
-unfolding turnfS ofBits
+turnf-of : (x : Float) → Sinpif.turnS x ≡ turnOf binary32 x
+unfolding Sinpif.turnS ofBits
 turnf-of x = refl
 
-quarterf-of : (t : Float) → quarterfS t ≡ (natAbs (wholeS (mul binary32 (fin false 1 (pos 2)) t)) + 1) / 2
-unfolding quarterfS ofBits
+quarterf-of : (t : Float) → Sinpif.quarterS t ≡ (natAbs (wholeS (mul binary32 (fin false 1 (pos 2)) t)) + 1) / 2
+unfolding Sinpif.quarterS ofBits
 quarterf-of t = ap (λ (z : Float). (natAbs (wholeS z) + 1) / 2) (mul-commutes binary32 t (fin false 1 (pos 2)))
 
 quarter-of : (t : Float) → quarterS t ≡ (natAbs (wholeS (mul binary64 (fin false 1 (pos 2)) t)) + 1) / 2
 unfolding quarterS ofBits
 quarter-of t = refl
 
-sinpif-is : (x : Float) → sinpifS x ≡ case kSinfS kCosfS (quarterfS (turnfS x)) (folded (turnfS x) (quarterfS (turnfS x)) ⊗ PI)
+sinpif-is : (x : Float) → sinpifS x ≡ case kSinfS kCosfS (Sinpif.quarterS (Sinpif.turnS x)) (folded (Sinpif.turnS x) (Sinpif.quarterS (Sinpif.turnS x)) ⊗ PI)
 unfolding sinpifS ofBits
 sinpif-is x = refl
 
@@ -143,15 +144,15 @@ pub sinpif-reduced : (m : ℕ) (e : ℤ) → T (fits binary32 (fin false m e)) �
 sinpif-reduced m e F h w =
     let x = fin false m e in
     let s = same-turn m e F h w in
-    let t : turnfS x ≡ turnS x = turnf-of x ∙ s .0 ∙ sym (turn-of x) in
-    let q : quarterfS (turnfS x) ≡ quarterS (turnS x) =
-    ap quarterfS (turnf-of x)
+    let t : Sinpif.turnS x ≡ turnS x = turnf-of x ∙ s .0 ∙ sym (turn-of x) in
+    let q : Sinpif.quarterS (Sinpif.turnS x) ≡ quarterS (turnS x) =
+    ap Sinpif.quarterS (turnf-of x)
     ∙ quarterf-of (turnOf binary32 x)
     ∙ ap (λ (n : ℕ). (n + 1) / 2) (s .1)
     ∙ sym (quarter-of (turnOf binary64 x))
     ∙ ap quarterS (sym (turn-of x)) in
     sinpif-is x
-    ∙ ap (λ (n : ℕ). case kSinfS kCosfS n (folded (turnfS x) n ⊗ PI)) q
+    ∙ ap (λ (n : ℕ). case kSinfS kCosfS n (folded (Sinpif.turnS x) n ⊗ PI)) q
     ∙ ap (λ (y : Float). case kSinfS kCosfS (quarterS (turnS x)) (folded y (quarterS (turnS x)) ⊗ PI)) t
 
 -- ---- the theorems
@@ -180,12 +181,12 @@ pub sinpif-odd : (m : ℕ) (e : ℤ) → T (fits binary32 (fin false m e)) → T
 sinpif-odd m e F h w = signs m e F h w .1
 
 -- ---- whole numbers: x mod 2 is 0 or 1
-zero-at : (x : Float) → turnfS x ≡ zero+ → sinpifS x ≡ F32.bits 0
-unfolding sinpifS quarterfS wholeS kSinfS narrowS add sub mul neg ofInt ofBits round
+zero-at : (x : Float) → Sinpif.turnS x ≡ zero+ → sinpifS x ≡ F32.bits 0
+unfolding sinpifS Sinpif.quarterS wholeS kSinfS narrowS add sub mul neg ofInt ofBits round
 zero-at x e = rw e refl
 
-one-at : (x : Float) → turnfS x ≡ one+ → sinpifS x ≡ F32.bits 0
-unfolding sinpifS quarterfS wholeS kSinfS narrowS add sub mul neg ofInt ofBits round
+one-at : (x : Float) → Sinpif.turnS x ≡ one+ → sinpifS x ≡ F32.bits 0
+unfolding sinpifS Sinpif.quarterS wholeS kSinfS narrowS add sub mul neg ofInt ofBits round
 one-at x e = rw e refl
 
 -- x is a whole number: +0

@@ -1,8 +1,8 @@
-// sin(pi x) in f32, the Rust's sin_pi in lgammaf_r.rs.
+// sin(pi x) in f32, the Rust's sin_pi in lgammaf_r.rs: x mod 2 and n in f32, and from the difference on in f64, by k_sinf and k_cosf.
 ghost use mathlib.Core.Path.{_≡_};
 ghost use mathlib.Core.Bool.{false};
 ghost use lib.Ieee.{binary32, ofBits, lt};
-ghost use Rattle.sinpi.specs.Sinpif.{turnfS, quarterfS, sinpifS};
+ghost use Rattle.sinpi.specs.Sinpif.{turnS, quarterS, sinpifS};
 use trig::single::k_cosf;
 use trig::single::k_sinf;
 use words::floor::floorf;
@@ -12,7 +12,7 @@ const PI: f64 = 3.14159265358979323846;
 
 // x mod 2.0
 fn turn(x: f32) -> f32
-    ensures { λ r. ⌜ r ≡ turnfS x ⌝ }
+    ensures { λ r. ⌜ r ≡ turnS x ⌝ }
 {
     let h = x * 0.5;
     2.0 * (h - floorf(h))
@@ -21,7 +21,7 @@ fn turn(x: f32) -> f32
 // n, of an x that is not negative.
 fn quarter(x: f32) -> u32
     requires { ⌜ lt x (ofBits binary32 0) ≡ false ⌝ }
-    ensures { λ r. ⌜ r ≡ quarterfS x ⌝ }
+    ensures { λ r. ⌜ r ≡ quarterS x ⌝ }
 {
     (wholef(x * 4.0) as u32 + 1) / 2
 }

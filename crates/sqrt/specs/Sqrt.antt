@@ -1,14 +1,15 @@
--- sqrt: the square root, rounded once. The Rust's sqrt.rs is one machine instruction on x86-64 and on aarch64, and this is what it gives.
+-- sqrt: the square root, rounded once. Said of the value, and not in the Rust's order: its sqrt.rs is one machine instruction on x86-64 and on
+-- aarch64, and this is what it gives. sqrtS is what `sqrt` promises.
 use Prim.Native.Nat.{ℕ, zero, suc, _+_, _*_, _/_, _^_}
 use mathlib.Core.Bool.{true, false}
-use lib.Dec.{leb, eqb}
 use lib.Ieee.{Float, nan, inf, fin, binary64, up, down, size, round}
-use Rattle.words.specs.Pick.{pick}
+use Rattle.words.specs.Pick.{if_then_else_}
+use Rattle.words.specs.Tests.{_≤?_, _=?_}
 
 -- The root of an n below 4 ^ k without its fraction: twice that of n / 4, or 1 more.
 unfoldable pub rootOf : ℕ → ℕ → ℕ
 rootOf zero n = 0
-rootOf (suc k) n = let r = 2 * rootOf k (n / 4) in pick (leb ((r + 1) * (r + 1)) n) (r + 1) r
+rootOf (suc k) n = let r = 2 * rootOf k (n / 4) in if (r + 1) * (r + 1) ≤? n then r + 1 else r
 
 -- The greatest r with r * r ≤ n (law `root-is` of proofs/Root.antt).
 unfoldable pub root : ℕ → ℕ
@@ -28,4 +29,4 @@ sqrtS (fin true (suc m) e) = nan
 sqrtS (fin false (suc m) e) =
     let n = suc m * up e * 4 ^ 601 / down e in
     let r = root n in
-    round binary64 false (2 * r + pick (eqb (r * r) n) 0 1) (2 * 2 ^ 601)
+    round binary64 false (2 * r + (if r * r =? n then 0 else 1)) (2 * 2 ^ 601)

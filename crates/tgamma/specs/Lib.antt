@@ -1,2 +1,3 @@
+-- s and tgamma.
 pub mod Lanczos
 pub mod Tgamma

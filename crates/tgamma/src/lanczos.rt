@@ -1,4 +1,4 @@
-// s, the Lanczos quotient S(x).
+// s: the Lanczos quotient S(x), of two polynomials of degree 12, for positive x. From 8 on both are taken in 1/x, so that no sum grows large.
 ghost use mathlib.Core.Path.{_≡_};
 ghost use Rattle.words.specs.F64.{bits};
 ghost use Rattle.tgamma.specs.Lanczos.{downS, upS, sS};

@@ -1,14 +1,19 @@
-// tgamma: the gamma function, by the formula of Lanczos, with the reflection below 0.
+// tgamma: the gamma function, by the formula of Lanczos (1964) with the constants of boost and python:
+// Gamma(x) = y^(x - 0.5) e^-y S(x), y = x + g - 0.5, g = 6.024680040776729583740234375; GMHALF is g - 0.5, and S(x) is in module `lanczos`.
+// The rounding error dy of y is worked out, and r = S(x) e^-y corrected for it by dy g r / y. The power is pow(y, 0.5 (x - 0.5)) multiplied in twice,
+// so that no factor overflows where the answer does not. For x < 0, Gamma(x) Gamma(-x) = -pi / (x sin(pi x)).
+// Regions in the order tested: not finite; below 2^-54 in size 1/x; whole numbers: NaN below 0, up to 23 by a table; from 184 on in size overflow,
+// or +-0 below 0 by the parity of floor(x); the formula.
 pub mod lanczos;
 
 ghost use mathlib.Core.Path.{_≡_};
 ghost use mathlib.Core.Bool.{true};
 ghost use Prim.Native.Nat.{_≤_};
-ghost use lib.Dec.{eqb};
 ghost use lib.IntN.{natAbs};
 ghost use lib.Ieee as Ieee;
 ghost use lib.Ieee.{binary64, neg};
-ghost use Rattle.words.specs.Pick.{pick};
+ghost use Rattle.words.specs.Pick.{if_then_else_};
+ghost use Rattle.words.specs.Tests.{_=?_};
 ghost use Rattle.words.specs.Bits.{sizeWordS, signS};
 ghost use Rattle.words.specs.F64.{bits};
 ghost use Rattle.words.specs.Floor.{floorS};
@@ -58,7 +63,7 @@ const FACT: [f64; 23] = [
 
 // |x|
 fn size(x: f64, sign: u32) -> f64
-    ensures { λ r. ⌜ r ≡ pick (eqb sign 1) (neg x) x ⌝ }
+    ensures { λ r. ⌜ r ≡ (if sign =? 1 then neg x else x) ⌝ }
 {
     if sign == 1 { -x } else { x }
 }

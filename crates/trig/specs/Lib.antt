@@ -1,3 +1,4 @@
+-- k_sin and k_cos in f64, and in f32.
 pub mod KSin
 pub mod KCos
 pub mod KSinf

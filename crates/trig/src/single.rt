@@ -1,4 +1,5 @@
-// The kernels of the sine and of the cosine for f32, as the Rust's k_sinf.rs and k_cosf.rs have them: in f64, narrowed at the end.
+// k_sinf and k_cosf, after FreeBSD's msun: sine and cosine of an f64 of size up to pi/4, worked out in f64 and narrowed to f32 at the end. Four
+// coefficients each, with errors that msun gives as 2^-37.5 (of the sine over x) and 2^-34.1; no tail.
 ghost use mathlib.Core.Path.{_≡_};
 ghost use Rattle.trig.specs.KSinf.{kSinfS};
 ghost use Rattle.trig.specs.KCosf.{kCosfS};

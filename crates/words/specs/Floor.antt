@@ -1,4 +1,5 @@
--- floor, floorf: the greatest whole number that is at most x, said of the value of x.
+-- floor, floorf: the greatest whole number that is at most x. Said of the value, and not in the Rust's order: its generic/floor.rs masks the
+-- bits of the fraction.
 use Prim.Native.Nat.{ℕ, _*_, _/_, _%_}
 use mathlib.Core.Bool.{Bool, cond}
 use lib.IntN.{ℤ, pos, negsuc}

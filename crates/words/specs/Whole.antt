@@ -1,4 +1,5 @@
--- The whole part: what is left of a float when its fraction is cut off, toward zero.
+-- The whole part, the Rust's `as i32`, `as isize` and `as usize` on a float: what is left when the fraction is cut off, toward zero. Said of
+-- the value; the Rust leaves it to the compiler.
 use Prim.Native.Nat.{ℕ, _*_, _/_, _^_}
 use mathlib.Core.Bool.{Bool, cond}
 use lib.IntN.{ℤ, pos, negℤ}
@@ -9,7 +10,7 @@ use lib.Ieee.{Float, nan, inf, fin, up, down}
 abbrev pub signed : Bool → ℕ → ℤ
 signed s q = cond s (negℤ (pos q)) (pos q)
 
--- 0 from size 2 ^ 31 on, and for a NaN
+-- 0 from size 2 ^ 31 on, where the Rust gives the end of the range, and for a NaN
 unfoldable pub wholeS : Float → ℤ
 wholeS nan = pos 0
 wholeS (inf s) = pos 0

@@ -5,7 +5,7 @@ use lib.IntN.{pos, negℤ, _-ℤ_}
 use mir.Syntax.{w32}
 use mir.Val.{toZ, ofZ}
 use native.Mathlib.Omega.{arith}
-use borrow.Author.Tests.{le-leb}
+use borrow.Author.Tests.{le-ltb}
 use Rattle.words.specs.F64.{bits}
 use Rattle.words.specs.Bits.{withHighWordS}
 use Rattle.pow_exp.specs.Exp2.{word, scaledS, exp2S}
@@ -38,7 +38,7 @@ scaled-requires c κs = search needs
 
 returns : tie.Need-returns
 unfolding exp2S
-returns c = simp (le-leb _ _ (c .before .before .if1 .taken)) (cc)
+returns c = simp (le-ltb _ _ (c .before .before .if1 .taken)) (cc)
 
 sub-h : tie.Need-sub-h
 sub-h c = search needs

@@ -2,7 +2,7 @@
 use mathlib.Core.Path.{refl}
 use Rattle.words.proofs.PatternLaws.{is-nan}
 use lib.Ieee.{toBits}
-use Rattle.exp.specs.Expf.{specialfS}
+use Rattle.exp.specs.Expf.{specialS}
 use borrow.Author.Tests.{le-leb, lt-leb}
 use Rattle.exp.specs.Expf.{expfS}
 use borrow.Author.Needs.{needs}
@@ -10,7 +10,7 @@ use Rattle.exp.proofs.single.expf.Statement.{statement}
 use Rattle.exp.proofs.single.expf.Tie as tie
 
 returns : tie.Need-returns
-unfolding expfS specialfS toBits
+unfolding expfS specialS toBits
 returns c = rw (is-nan (c .before .args .x) (c .if1 .taken)) refl
 
 size-bits-requires : tie.Need-size-bits-requires

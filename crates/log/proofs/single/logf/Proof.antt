@@ -28,8 +28,8 @@ returns-2 c =
 bits-of-f32-requires-2 : tie.Need-bits-of-f32-requires-2
 bits-of-f32-requires-2 c κs = search needs
 
-reducedf-requires : tie.Need-reducedf-requires
-reducedf-requires c κs = search needs
+reduced-requires : tie.Need-reduced-requires
+reduced-requires c κs = search needs
 
 returns-3 : tie.Need-returns-3
 returns-3 c =
@@ -46,7 +46,7 @@ returns-3 c =
     (n .before .before .if1 .came))
     (n .if4 .left)
     (c .before .bits-of-f322 .ensures)
-    (c .reducedf .ensures)
+    (c .reduced .ensures)
 
 returns-4 : tie.Need-returns-4
 returns-4 c =
@@ -69,8 +69,8 @@ returns-5 c =
     (c .if6 .taken)
     refl
 
-reducedf-requires-2 : tie.Need-reducedf-requires-2
-reducedf-requires-2 c κs = search needs
+reduced-requires-2 : tie.Need-reduced-requires-2
+reduced-requires-2 c κs = search needs
 
 returns-6 : tie.Need-returns-6
 returns-6 c =
@@ -83,7 +83,7 @@ returns-6 c =
     _
     (n .if5 .left)
     (simp (ne-eqb _ _ (c .before .if6 .left)))
-    (c .reducedf2 .ensures)
+    (c .reduced2 .ensures)
 
 pub logf-spec : {M : Type 1} → statement M
 logf-spec =
@@ -93,9 +93,9 @@ logf-spec =
     returns
     returns-2
     bits-of-f32-requires-2
-    reducedf-requires
+    reduced-requires
     returns-3
     returns-4
     returns-5
-    reducedf-requires-2
+    reduced-requires-2
     returns-6)

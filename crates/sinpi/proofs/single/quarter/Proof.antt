@@ -8,7 +8,7 @@ use mir.Syntax.{w32}
 use mir.ValLaws.{toZ-ofZ}
 use Rattle.rounding.proofs.Fraction.{mul-commutes}
 use Rattle.words.specs.Whole.{wholeS}
-use Rattle.sinpi.specs.Sinpif.{quarterfS}
+use Rattle.sinpi.specs.Sinpif.{quarterS}
 use Rattle.sinpi.proofs.Reduction.{NotBelow, four-natural, room}
 use borrow.Author.Needs.{needs, sfits-of}
 use Rattle.sinpi.proofs.single.quarter.Statement.{statement}
@@ -34,7 +34,7 @@ add-result c =
     record { fits = k .1 }
 
 returns : tie.Need-returns
-unfolding quarterfS
+unfolding quarterS
 returns c = rw (toZ-ofZ w32 (c .wholef .result) (sfits-of (c .wholef .ok)), c .wholef .ensures)
 
 pub quarter-spec : {M : Type 1} → statement M

@@ -1,4 +1,4 @@
--- `log::single::reducedf` meets its contract. Assumes nothing.
+-- `log::single::reduced` meets its contract. Assumes nothing.
 use Prim.Native.Nat.{_+_, _-_, _%_, _^_}
 use native.Mathlib.Omega.{arith}
 use mir.Syntax.{w32}
@@ -6,8 +6,8 @@ use mir.ValLaws.{toZ-ofZ}
 use borrow.Author.Needs.{needs, sfits-of}
 use Rattle.log.specs.Logf.{log32}
 use Rattle.log.proofs.Reduction.{reduced-of}
-use Rattle.log.proofs.single.reducedf.Statement.{statement}
-use Rattle.log.proofs.single.reducedf.Tie as tie
+use Rattle.log.proofs.single.reduced.Statement.{statement}
+use Rattle.log.proofs.single.reduced.Tie as tie
 
 sub-ix : tie.Need-sub-ix
 sub-ix c = search needs
@@ -27,8 +27,8 @@ cast-of-bits-f32 c = search needs
 of-bits-f32-requires : tie.Need-of-bits-f32-requires
 of-bits-f32-requires c κs = search needs
 
-nearf-requires : tie.Need-nearf-requires
-nearf-requires c κs =
+near-requires : tie.Need-near-requires
+near-requires c κs =
     let e = c .before .exponent in
     rw (toZ-ofZ w32 (e .result) (sfits-of (e .ok))) (e .ensures .1)
 
@@ -49,12 +49,12 @@ returns c =
     (sfits-of (s .exponent .ok))
     (s .exponent .ensures .0)
     (c .before .of-bits-f32 .ensures)
-    (c .nearf .ensures)
+    (c .near .ensures)
     (omega arith)
     (omega arith)
 
-pub reducedf-spec : {M : Type 1} → statement M
-reducedf-spec =
+pub reduced-spec : {M : Type 1} → statement M
+reduced-spec =
     tie.close
     (tie.spec
     sub-ix
@@ -63,5 +63,5 @@ reducedf-spec =
     add-ix-2
     cast-of-bits-f32
     of-bits-f32-requires
-    nearf-requires
+    near-requires
     returns)

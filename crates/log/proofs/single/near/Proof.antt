@@ -1,4 +1,4 @@
--- `log::single::nearf` meets its contract. Assumes nothing.
+-- `log::single::near` meets its contract. Assumes nothing.
 use mathlib.Core.Path.{sym, subst}
 use lib.IntN.{ℤ}
 use lib.Dec.{T}
@@ -8,8 +8,8 @@ use mir.ValLaws.{toZ-ofZ}
 use borrow.Author.Needs.{needs}
 use Rattle.log.specs.Plan.{nearS}
 use Rattle.log.proofs.Exponents.{small-exact}
-use Rattle.log.proofs.single.nearf.Statement.{statement}
-use Rattle.log.proofs.single.nearf.Tie as tie
+use Rattle.log.proofs.single.near.Statement.{statement}
+use Rattle.log.proofs.single.near.Tie as tie
 
 slice-aggregate-hornerf : tie.Need-slice-aggregate-hornerf
 slice-aggregate-hornerf c = search needs
@@ -35,8 +35,8 @@ returns c =
     let args = s .before .before in
     rw (s .hornerf .ensures, c .before .hornerf2 .ensures, toZ-ofZ w32 (args .args .k) (args .fits .k))
 
-pub nearf-spec : {M : Type 1} → statement M
-nearf-spec =
+pub near-spec : {M : Type 1} → statement M
+near-spec =
     tie.close
     (tie.spec
     slice-aggregate-hornerf
