@@ -6,6 +6,8 @@ mod cuts;
 mod exhaustive;
 mod kinds;
 mod leaves;
+#[cfg(feature = "linked")]
+mod linked;
 mod patterns;
 mod port;
 mod powers;
@@ -31,6 +33,9 @@ const USAGE: &str = "usage:
   compare leaves SEED COUNT [FILE]   every leaf, at COUNT random patterns beside the systematic ones
   compare exhaustive-f32 [FILE]      the f32 leaves and functions, at all 2^32 patterns; a run that was
                                      broken off goes on where it was
+  compare linked SEED COUNT          the C entries, linked: the f32 functions at all 2^32 patterns, the f64
+                                     ones at COUNT random patterns beside the systematic ones (a build with
+                                     the feature linked)
   compare stream SEED COUNT [FILE]   COUNT requests of mixed kinds beside the systematic ones, and
                                      damaged streams
   compare stored                     the lists and streams that the gate replays, answer by answer
@@ -65,6 +70,8 @@ fn run(words: &[&str]) -> io::Result<u8> {
         ["leaves", seed, count, file @ ..] => {
             compare_leaves(number(seed)?, number(count)?, &program("leaves", file)?)
         }
+        #[cfg(feature = "linked")]
+        ["linked", seed, count] => Ok(linked::compare(number(seed)?, number(count)?)),
         ["exhaustive-f32", file @ ..] => compare_all_singles(&program("leaves", file)?),
         ["stream", seed, count, file @ ..] => {
             compare_streams(number(seed)?, number(count)?, &program("answers", file)?)
