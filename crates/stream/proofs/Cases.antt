@@ -2,36 +2,38 @@
 use mathlib.Core.Path.{_≡_, refl}
 use mathlib.Core.List.{List, [], _∷_}
 use Prim.Native.Nat.{ℕ}
-use lib.ListN.{length}
-use Rattle.stream.specs.Bytes.{digits}
-use Rattle.stream.specs.Reply.{bytesOf}
-use Rattle.stream.specs.Run.{Out, run, steps, one, rowIn}
-use Rattle.stream.specs.Kinds.{table}
+use Rattle.digits.specs.Digits.{digits}
+use Rattle.replies.specs.Reply.{bytesOf}
+use Rattle.replies.specs.Row.{rowIn}
+use Rattle.stream.specs.Run.{Out, run, steps, one}
+use Rattle.kinds.specs.Shape.{shapeIn}
+use Rattle.kinds.specs.Kinds.{shapes}
+use Rattle.replies.specs.Table.{meanings, table}
 
 -- code, records, bytes read and bytes written
 abbrev Counts : Out → ℕ → ℕ → ℕ → ℕ → Type 0
-Counts o code records read written = ((o .code ≡ code) × (o .records ≡ records)) × ((o .read ≡ read) × (length (o .bytes) ≡ written))
+Counts o code records read written = (o .code ≡ code) × (o .tally ≡ record { records = records; read = read; written = written })
 
 -- erf of 6
 abbrev erf6 : List ℕ
 erf6 = 3 ∷ 0 ∷ 0 ∷ 0 ∷ 0 ∷ 0 ∷ 0 ∷ 24 ∷ 64 ∷ []
 
 pub whole : Counts (run table erf6 9) 0 1 9 9
-unfolding run steps one rowIn table bytesOf digits
-whole = ((refl, refl), (refl, refl))
+unfolding run steps one rowIn table meanings shapes shapeIn bytesOf digits
+whole = (refl, refl)
 
 pub no-room : Counts (run table erf6 8) 3 0 0 0
-unfolding run steps one rowIn table bytesOf digits
-no-room = ((refl, refl), (refl, refl))
+unfolding run steps one rowIn table meanings shapes shapeIn bytesOf digits
+no-room = (refl, refl)
 
 pub cut-before-full : Counts (run table (4 ∷ 0 ∷ []) 0) 2 0 0 0
-unfolding run steps one rowIn table bytesOf digits
-cut-before-full = ((refl, refl), (refl, refl))
+unfolding run steps one rowIn table meanings shapes shapeIn bytesOf digits
+cut-before-full = (refl, refl)
 
-pub unknown-before-cut : Counts (run table (5 ∷ []) 0) 1 0 0 0
-unfolding run steps one rowIn table bytesOf digits
-unknown-before-cut = ((refl, refl), (refl, refl))
+pub unknown-before-cut : Counts (run table (200 ∷ []) 0) 1 0 0 0
+unfolding run steps one rowIn table meanings shapes shapeIn bytesOf digits
+unknown-before-cut = (refl, refl)
 
 pub nothing : Counts (run table [] 0) 0 0 0 0
-unfolding run steps one rowIn table bytesOf digits
-nothing = ((refl, refl), (refl, refl))
+unfolding run steps one rowIn table meanings shapes shapeIn bytesOf digits
+nothing = (refl, refl)

@@ -1,13 +1,12 @@
--- Laws of the stream. For any table: Bytes and what is read back (ByteLaws, ReadLaws), a record (StepLaws), a run (RunLaws), a stream that
--- comes in pieces (SplitLaws, PieceLaws), room enough (RoomLaws). For the table that there is: KindLaws, Cases. What the contracts determine: Unique.
-pub mod ByteLaws
-pub mod ReadLaws
+-- Laws of the stream. For any table: counts (TallyLaws), a record (StepLaws), a run (RunLaws), a stream that comes in pieces (SplitLaws,
+-- PieceLaws), room enough (RoomLaws), what a loop keeps (LoopLaws). For the table that there is: BatchLaws, Cases. What the contracts determine: Unique.
+pub mod TallyLaws
 pub mod RunLaws
 pub mod LoopLaws
 pub mod StepLaws
 pub mod SplitLaws
 pub mod RoomLaws
 pub mod PieceLaws
-pub mod KindLaws
+pub mod BatchLaws
 pub mod Cases
 pub mod Unique

@@ -1,34 +1,34 @@
 -- The record at a place: which case of `one` it is, by the tests in the code's order. Assumes nothing.
 use mathlib.Core.Path.{_≡_, refl, sym, ap, _∙_}
 use mathlib.Core.List.{List, [], _∷_}
-use Prim.Native.Nat.{ℕ, suc, _+_, _-_, _≤_, _<_}
+use Prim.Native.Nat.{ℕ, _+_, _-_, _≤_, _<_}
 use native.Mathlib.Numerals.{add-one}
 use native.Mathlib.Omega.{arith}
 use borrow.Author.Tests.{lt-ltb, le-ltb, eq-eqb, ne-eqb}
-use lib.ListN.{length, drop, getD, set, length-append, length-drop, drop-of-length-le}
+use lib.ListN.{length, drop, getD, length-drop, drop-of-length-le}
 use lib.Seq.{sets, drop-cons}
-use Rattle.stream.specs.Bytes.{word, digits}
-use Rattle.stream.specs.Reply.{bytesOf}
-use Rattle.stream.specs.Run.{Row, rowIn, Out, stop, took, choose, one}
+use Rattle.digits.specs.Digits.{word}
+use Rattle.replies.specs.Reply.{bytesOf}
+use Rattle.replies.specs.Row.{Row, rowIn}
+use Rattle.stream.specs.Codes.{DONE, UNKNOWN, CUT, FULL}
+use Rattle.stream.specs.Tally.{nothing}
+use Rattle.stream.specs.Run.{Out, stop, took, choose, one}
 use Rattle.stream.specs.Post.{Did}
 use Rattle.stream.specs.declared.Report.{Report}
-use Rattle.stream.specs.declared.Reply.{Reply}
-use Rattle.stream.proofs.ByteLaws.{length-digits}
-use Rattle.stream.proofs.LoopLaws.{sets-append}
 
-pub at-end : (T : List Row) (s : List ℕ) (at room : ℕ) → length s ≤ at → one T (drop at s) room ≡ stop 0
+pub at-end : (T : List Row) (s : List ℕ) (at room : ℕ) → length s ≤ at → one T (drop at s) room ≡ stop DONE
 unfolding one
 at-end T s at room h = let e : drop at s ≡ [] = drop-of-length-le s h in rw e
 
 -- the tests
 module _ (w l room : ℕ) (x : List ℕ) where
-  pub choose-unknown : w ≡ 0 → choose w l room x ≡ stop 1
+  pub choose-unknown : w ≡ 0 → choose w l room x ≡ stop UNKNOWN
   choose-unknown z = rw (eq-eqb w 0 z)
 
-  pub choose-cut : (w ≡ 0 → ⊥) → l < w → choose w l room x ≡ stop 2
+  pub choose-cut : (w ≡ 0 → ⊥) → l < w → choose w l room x ≡ stop CUT
   choose-cut z h = rw (ne-eqb w 0 z, lt-ltb l w h)
 
-  pub choose-full : (w ≡ 0 → ⊥) → w ≤ l → room < length x → choose w l room x ≡ stop 3
+  pub choose-full : (w ≡ 0 → ⊥) → w ≤ l → room < length x → choose w l room x ≡ stop FULL
   choose-full z h f = rw (ne-eqb w 0 z, le-ltb l w h, lt-ltb room (length x) f)
 
   pub choose-whole : (w ≡ 0 → ⊥) → w ≤ l → length x ≤ room → choose w l room x ≡ took w x
@@ -48,43 +48,26 @@ at-front T s at room w x h ew ex =
     ∙ ap (λ (l : ℕ). choose w l room x) (length-drop (at + 1) s)
 
 module _ (T : List Row) (s : List ℕ) (at room w : ℕ) (h : at < length s) (ew : w ≡ rowIn T (getD s at 0) .width) where
-  pub at-unknown : w ≡ 0 → one T (drop at s) room ≡ stop 1
+  pub at-unknown : w ≡ 0 → one T (drop at s) room ≡ stop UNKNOWN
   at-unknown z =
       let x = bytesOf (rowIn T (getD s at 0) .reply (word w (drop (at + 1) s))) in
       at-front T s at room w x h ew refl ∙ choose-unknown w (length s - (at + 1)) room x z
 
-  pub at-cut : (w ≡ 0 → ⊥) → length s - (at + 1) < w → one T (drop at s) room ≡ stop 2
+  pub at-cut : (w ≡ 0 → ⊥) → length s - (at + 1) < w → one T (drop at s) room ≡ stop CUT
   at-cut z l =
       let x = bytesOf (rowIn T (getD s at 0) .reply (word w (drop (at + 1) s))) in
       at-front T s at room w x h ew refl ∙ choose-cut w (length s - (at + 1)) room x z l
 
   module _ (x : List ℕ) (ex : x ≡ bytesOf (rowIn T (getD s at 0) .reply (word w (drop (at + 1) s)))) (z : w ≡ 0 → ⊥) (l : w ≤ length s - (at + 1)) where
-    pub at-full : room < length x → one T (drop at s) room ≡ stop 3
+    pub at-full : room < length x → one T (drop at s) room ≡ stop FULL
     at-full f = at-front T s at room w x h ew ex ∙ choose-full w (length s - (at + 1)) room x z l f
 
     pub at-whole : length x ≤ room → one T (drop at s) room ≡ took w x
     at-whole f = at-front T s at room w x h ew ex ∙ choose-whole w (length s - (at + 1)) room x z l f
 
-pub did-stop : (o : Out) (r : Report) (c out : ℕ) (a : List ℕ) → r ≡ record { code = c; records = 0; read = 0; written = 0 } → o ≡ stop c → Did o r out a a
-did-stop o r c out a er eo =
-    rw (er, eo) (record { code = refl; records = refl; read = refl; written = refl; buffer = refl })
+pub did-stop : (o : Out) (r : Report) (c out : ℕ) (a : List ℕ) → r ≡ record { code = c; tally = nothing } → o ≡ stop c → Did o r out a a
+did-stop o r c out a er eo = rw (er, eo) (record { code = refl; tally = refl; buffer = refl })
 
 pub did-took : (o : Out) (w n out : ℕ) (x a b : List ℕ) → o ≡ took w x → n ≡ length x → b ≡ sets a out x →
-    Did o (record { code = 0; records = 1; read = 1 + w; written = n }) out a b
-did-took o w n out x a b e l f = rw e (record { code = refl; records = refl; read = refl; written = l; buffer = f })
-
-pub length-bytes : (r : Reply) → length (bytesOf r) ≡ 1 + r .width + r .more
-unfolding bytesOf
-length-bytes r =
-    let l = length-append (digits (r .width) (r .bits)) (digits (r .more) (r .extra)) in
-    omega (arith, l, length-digits (r .width) (r .bits), length-digits (r .more) (r .extra))
-
-pub wrote : (r : Reply) (out p : ℕ) (a b c : List ℕ) → p ≡ out + 1 + r .width → b ≡ sets (set a out (r .head)) (out + 1) (digits (r .width) (r .bits)) →
-    c ≡ sets b p (digits (r .more) (r .extra)) → c ≡ sets a out (bytesOf r)
-unfolding bytesOf
-wrote r out p a b c ep eb ec =
-    let l = length-digits (r .width) (r .bits) in
-    let q : p ≡ suc out + length (digits (r .width) (r .bits)) = omega arith in
-    ec ∙ ap (λ (k : ℕ). sets b k (digits (r .more) (r .extra))) q
-    ∙ ap (λ (x : List ℕ). sets x (suc out + length (digits (r .width) (r .bits))) (digits (r .more) (r .extra))) (eb ∙ ap (λ (k : ℕ). sets (set a out (r .head)) k (digits (r .width) (r .bits))) (add-one out))
-    ∙ sets-append (digits (r .width) (r .bits)) (digits (r .more) (r .extra)) (set a out (r .head)) (suc out)
+    Did o (record { code = DONE; tally = record { records = 1; read = 1 + w; written = n } }) out a b
+did-took o w n out x a b e l f = rw (e, l) (record { code = refl; tally = refl; buffer = f })

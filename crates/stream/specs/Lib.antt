@@ -1,6 +1,6 @@
 -- What the request stream is. Read in this order.
-pub mod Bytes
-pub mod Reply
+pub mod Codes
+pub mod Tally
 pub mod Run
-pub mod Kinds
+pub mod Batch
 pub mod Post

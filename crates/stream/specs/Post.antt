@@ -2,7 +2,7 @@
 use mathlib.Core.Path.{_≡_}
 use mathlib.Core.List.{List}
 use Prim.Native.Nat.{ℕ, _+_}
-use lib.ListN.{length, drop}
+use lib.ListN.{drop}
 use lib.Seq.{sets}
 use denote.Ref.{RefT, now, ptr}
 use Rattle.stream.specs.Run.{Out}
@@ -11,15 +11,13 @@ use Rattle.stream.specs.declared.Report.{Report}
 -- a report says what was done, and the buffer has the bytes written from a place on, and is else as before
 pub record Did (o : Out) (r : Report) (place : ℕ) (before after : List ℕ) : Type 0 where
   pub code : r .code ≡ o .code
-  pub records : r .records ≡ o .records
-  pub read : r .read ≡ o .read
-  pub written : r .written ≡ length (o .bytes)
+  pub tally : r .tally ≡ o .tally
   pub buffer : after ≡ sets before place (o .bytes)
 
 -- the second form: r is the unread tail of s, a part of that lent slice
 pub record Rest (o : Out) (s r : RefT (List ℕ)) (before after : List ℕ) : Type 0 where
-  pub tail : now r ≡ drop (o .read) (now s)
-  pub place : ptr r ≡ (ptr s .0, o .read + ptr s .1)
+  pub tail : now r ≡ drop (o .tally .read) (now s)
+  pub place : ptr r ≡ (ptr s .0, o .tally .read + ptr s .1)
   pub buffer : after ≡ sets before 0 (o .bytes)
 
 -- the third form: r is the written front of a, a part of that lent slice

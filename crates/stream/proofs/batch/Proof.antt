@@ -1,79 +1,72 @@
 -- `stream::batch` meets its contract: each turn is one record more of the run. Assumes nothing.
-use mathlib.Core.Path.{_∙_}
-use Prim.Native.Nat.{_+_, _-_, _<_}
-use borrow.Author.Needs.{needs}
+use mathlib.Core.Path.{_≡_, sym, ap, _∙_, subst}
+use mathlib.Core.List.{List}
+use Prim.Native.Nat.{ℕ, _-_}
 use native.Mathlib.Omega.{arith}
 use lib.ListN.{length}
-use Rattle.stream.specs.Kinds.{table}
-use Rattle.stream.proofs.LoopLaws.{Going, going-none, going-on, going-done}
+use Rattle.replies.specs.Table.{table}
+use Rattle.stream.specs.Tally.{_⊞_}
+use Rattle.stream.specs.declared.Tally.{Tally}
+use Rattle.stream.proofs.LoopLaws.{Going, going-none, going-on, going-further, going-done}
 use Rattle.stream.proofs.batch.Statement.{statement}
 use Rattle.stream.proofs.batch.Tie as tie
 
 abbrev Inv-loop : tie.InvT-loop
-Inv-loop requests answers₀ records₀ read₀ written₀ answers records read written = Going table requests answers₀ answers records read written
+Inv-loop requests answers₀ tally₀ answers tally = Going table requests answers₀ answers tally
 
 abbrev μ-loop : tie.MeasureT-loop
-μ-loop requests answers₀ records₀ read₀ written₀ answers records read written = length requests - read
+μ-loop requests answers₀ tally₀ answers tally = length requests - tally .read
+
+-- a turn: where the loop stood, and what the step did
+module _ (q : tie.After-struct-known Inv-loop μ-loop) where
+  abbrev turn : tie.After-step Inv-loop μ-loop
+  turn = q .before .before .before .before
+
+  abbrev stood : tie.At-loop Inv-loop μ-loop
+  stood = turn .before .before
+
+  abbrev requests : List ℕ
+  requests = stood .before .before .before .args .requests .now
+
+  abbrev first : List ℕ
+  first = stood .before .before .before .args .answers .now
+
+  abbrev after : List ℕ
+  after = turn .step .last .1 .1 .0
+
+  -- where a record was taken, the loop stands further on
+  on : (turn .step .result .tally .records ≡ 0 → ⊥) → Going table requests first after (stood .loop .tally ⊞ turn .step .result .tally)
+  on z = going-on table requests first (stood .loop .answers) after (stood .loop .tally) (turn .step .result) (stood .loop .inv) (turn .step .ensures) z
 
 loop-holds : tie.Need-loop-holds Inv-loop μ-loop
 loop-holds c = going-none table _ _
 
 step-requires : tie.Need-step-requires Inv-loop μ-loop
-step-requires c κs = search needs
+step-requires c κs = let i = c .before .loop .inv in (i .inside, i .within)
 
 same-length : tie.Need-same-length Inv-loop μ-loop
-same-length c =
-    let l = c .before .before .before .before .before .before .loop in
-    let a = c .before .before .before .before .before .before .before .before .before .args in
-    let t = c .before .before .before .before .step in
-    t .kept .1 .1 .0 ∙ l .inv .same
+same-length c = let q = c .before in turn q .step .kept .1 .1 .0 ∙ stood q .loop .inv .same
 
 returns : tie.Need-returns Inv-loop μ-loop
 returns c =
-    let l = c .before .before .before .before .before .before .loop in
-    let a = c .before .before .before .before .before .before .before .before .before .args in
-    let t = c .before .before .before .before .step in
-    going-done table (a .requests .now) (a .answers .now) (l .answers) (t .last .1 .1 .0) (l .records) (l .read) (l .written) (t .result) (l .inv) (t .ensures) (c .if1 .taken)
+    let q = c .before in
+    going-done table (requests q) (first q) (stood q .loop .answers) (after q) (stood q .loop .tally) (turn q .step .result) (stood q .loop .inv) (turn q .step .ensures) (c .if1 .taken)
 
--- where a record was taken the loop has read something, and stands further on
-further : (c : tie.Else1 Inv-loop μ-loop) →
-    let l = c .before .before .before .before .before .before .loop in
-    let a = c .before .before .before .before .before .before .before .before .before .args in
-    let t = c .before .before .before .before .step in
-    (0 < t .result .read) × Going table (a .requests .now) (a .answers .now) (t .last .1 .1 .0) (l .records + 1) (l .read + t .result .read) (l .written + t .result .written)
-further c =
-    let l = c .before .before .before .before .before .before .loop in
-    let a = c .before .before .before .before .before .before .before .before .before .args in
-    let t = c .before .before .before .before .step in
-    going-on table (a .requests .now) (a .answers .now) (l .answers) (t .last .1 .1 .0) (l .records) (l .read) (l .written) (t .result) (l .inv) (t .ensures) (c .if1 .left)
-
-add-records : tie.Need-add-records Inv-loop μ-loop
-add-records c = omega (arith, further c .1 .count, further c .1 .inside)
-
-add-read : tie.Need-add-read Inv-loop μ-loop
-add-read c = omega (arith, further (c .before) .1 .inside)
-
-add-written : tie.Need-add-written Inv-loop μ-loop
-add-written c = omega (arith, further (c .before .before) .1 .within, further (c .before .before) .1 .same)
+add-requires : tie.Need-add-requires Inv-loop μ-loop
+add-requires c κs = let g = on (c .before) (c .if1 .left) in (omega (arith, g .count, g .inside), (omega (arith, g .inside), omega (arith, g .within, g .same)))
 
 loop-less : tie.Need-loop-less Inv-loop μ-loop
-loop-less c = omega (arith, further (c .before .before) .1 .inside, further (c .before .before) .0)
+loop-less c =
+    let q = c .before .before in
+    let f = going-further table (requests q) (first q) (stood q .loop .answers) (after q) (stood q .loop .tally) (turn q .step .result) (stood q .loop .inv) (turn q .step .ensures) (c .before .if1 .left) in
+    omega (arith, f, on q (c .before .if1 .left) .inside, ap (λ (t : Tally). t .read) (c .add .ensures))
 
 loop-again : tie.Need-loop-again Inv-loop μ-loop
-loop-again c = further (c .before .before) .1
+loop-again c =
+    let q = c .before .before in
+    subst (Going table (requests q) (first q) (after q)) (sym (c .add .ensures)) (on q (c .before .if1 .left))
 
 pub batch-spec : {M : Type 1} → statement M
 batch-spec =
     tie.close
-    (tie.spec
-    Inv-loop
-    μ-loop
-    loop-holds
-    step-requires
-    same-length
-    returns
-    add-records
-    add-read
-    add-written
-    loop-less
-    loop-again)
+    (tie.spec Inv-loop μ-loop loop-holds step-requires same-length returns add-requires loop-less loop-again)

@@ -2,7 +2,8 @@
 use mathlib.Core.Path.{ap}
 use Prim.Native.Nat.{ℕ, _+_}
 use lib.ListN.{length}
-use Rattle.stream.specs.Kinds.{table}
+use Rattle.replies.specs.Table.{table}
+use Rattle.stream.specs.declared.Tally.{Tally}
 use Rattle.stream.proofs.LoopLaws.{read-in, tail}
 use borrow.Author.Needs.{needs}
 use Rattle.stream.proofs.batch_rest.Statement.{statement}
@@ -13,15 +14,15 @@ batch-requires c κs = search needs
 
 sub-result : tie.Need-sub-result
 sub-result c =
-    let a = c .before .before .before .before .before .before .args in
-    let t = c .before .before .batch in
-    read-in table (a .requests .now) (length (a .answers .now)) (t .result .read) (t .ensures .read)
+    let a = c .before .before .before .before .before .before .before .args in
+    let t = c .before .before .before .batch in
+    read-in table (a .requests .now) (length (a .answers .now)) (t .result .tally .read) (ap (λ (x : Tally). x .read) (t .ensures .tally))
 
 part-result-start : tie.Need-part-result-start
 part-result-start c =
-    let a = c .before .before .before .before .before .before .args in
-    let t = c .before .before .batch in
-    read-in table (a .requests .now) (length (a .answers .now)) (t .result .read) (t .ensures .read)
+    let a = c .before .before .before .before .before .before .before .args in
+    let t = c .before .before .before .batch in
+    read-in table (a .requests .now) (length (a .answers .now)) (t .result .tally .read) (ap (λ (x : Tally). x .read) (t .ensures .tally))
 
 part-result-end : tie.Need-part-result-end
 part-result-end c = search needs
@@ -31,9 +32,9 @@ same-length c = search needs
 
 returns : tie.Need-returns
 returns c =
-    let a = c .before .before .before .before .before .before .before .args in
-    let t = c .before .before .before .batch in
-    record { tail = tail table (a .requests .now) (length (a .answers .now)) (t .result .read) (t .ensures .read); buffer = t .ensures .buffer; place = ap (λ (k : ℕ). (a .requests .ptr .0, k + a .requests .ptr .1)) (t .ensures .read) }
+    let a = c .before .before .before .before .before .before .before .before .args in
+    let t = c .before .before .before .before .batch in
+    record { tail = tail table (a .requests .now) (length (a .answers .now)) (t .result .tally .read) (ap (λ (x : Tally). x .read) (t .ensures .tally)); buffer = t .ensures .buffer; place = ap (λ (k : ℕ). (a .requests .ptr .0, k + a .requests .ptr .1)) (ap (λ (x : Tally). x .read) (t .ensures .tally)) }
 
 pub batch-rest-spec : {M : Type 1} → statement M
 batch-rest-spec =

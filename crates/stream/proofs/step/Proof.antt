@@ -1,16 +1,64 @@
 -- `stream::step` meets its contract: the tests that led to each return say which case of `one` it is. Assumes nothing.
 use mathlib.Core.Path.{_≡_, sym, ap, _∙_, subst}
-use Prim.Native.Nat.{ℕ, _+_, _-_, _<_, _^_}
+use mathlib.Core.List.{List}
+use Prim.Native.Nat.{ℕ, _+_, _-_, _≤_}
 use native.Mathlib.Omega.{arith}
-use lib.ListN.{length, drop, getD}
-use Rattle.stream.specs.Bytes.{word}
-use Rattle.stream.specs.Reply.{bytesOf}
-use Rattle.stream.specs.Run.{rowIn}
-use Rattle.stream.specs.Kinds.{table}
-use Rattle.stream.proofs.StepLaws.{at-end, at-unknown, at-cut, at-full, at-whole, did-stop, did-took, length-bytes}
 use borrow.Author.Needs.{needs}
+use lib.ListN.{length, drop, getD}
+use Rattle.digits.specs.Digits.{word}
+use Rattle.replies.specs.Reply.{bytesOf}
+use Rattle.replies.specs.Row.{rowIn}
+use Rattle.replies.specs.Table.{table}
+use Rattle.replies.proofs.ReplyLaws.{length-bytes}
+use Rattle.replies.proofs.TableLaws.{row-width, reply-longest}
+use Rattle.stream.proofs.StepLaws.{at-end, at-unknown, at-cut, at-full, at-whole, did-stop, did-took}
+use Rattle.stream.proofs.BatchLaws.{answered}
 use Rattle.stream.proofs.step.Statement.{statement}
 use Rattle.stream.proofs.step.Tie as tie
+
+-- where a kind was looked up: the requests, the place, the room, the kind, and the width of its body
+module _ (b : tie.After-body) where
+  abbrev start : tie.Start
+  start = b .before .before .before .before .before
+
+  abbrev s : List ℕ
+  s = start .args .requests .now
+
+  abbrev at : ℕ
+  at = start .args .at
+
+  abbrev out : ℕ
+  out = start .args .out
+
+  abbrev answers : List ℕ
+  answers = start .args .answers .now
+
+  abbrev room : ℕ
+  room = length answers - out
+
+  abbrev kind : ℕ
+  kind = getD s at 0
+
+  width-is : b .body .result ≡ rowIn table kind .width
+  width-is = b .body .ensures ∙ sym (row-width kind)
+
+-- where the reply was made: it is the row's, and no longer than ten bytes
+module _ (p : tie.After-reply-to) where
+  abbrev looked : tie.After-body
+  looked = p .before .before .before .before
+
+  abbrev reply : List ℕ
+  reply = bytesOf (p .reply-to .result)
+
+  reply-is : reply ≡ bytesOf (rowIn table (kind looked) .reply (word (looked .body .result) (drop (at looked + 1) (s looked))))
+  reply-is =
+      ap bytesOf (answered (s looked) (at looked + 1) (looked .body .result) (kind looked) (p .before .get .result) (p .reply-to .result)
+      (λ i. looked .before .shared-slice-known2 .given i .fits) (looked .body .ensures) (p .before .get .ensures) (p .reply-to .ensures))
+
+  reply-short : 1 + p .reply-to .result .width + p .reply-to .result .more ≤ 10
+  reply-short =
+      subst (λ (n : ℕ). n ≤ 10) (sym (ap length reply-is) ∙ length-bytes (p .reply-to .result))
+      (reply-longest (kind looked) (word (looked .body .result) (drop (at looked + 1) (s looked))))
 
 stopped-requires : tie.Need-stopped-requires
 stopped-requires c κs = search needs
@@ -24,22 +72,20 @@ returns c =
 shared-slice-read-kind : tie.Need-shared-slice-read-kind
 shared-slice-read-kind c = search needs
 
-width-of-requires : tie.Need-width-of-requires
-width-of-requires c κs = search needs
+body-requires : tie.Need-body-requires
+body-requires c κs = search needs
 
 stopped-requires-2 : tie.Need-stopped-requires-2
 stopped-requires-2 c κs = search needs
 
 returns-2 : tie.Need-returns-2
 returns-2 c =
-    let a = c .before .before .before .before .before .before .before .args in
-    let w = c .before .before .width-of in
-    let room = length (a .answers .now) - a .out in
-    did-stop _ _ 1 (a .out) (a .answers .now) (c .stopped2 .ensures)
-    (at-unknown table (a .requests .now) (a .at) room (w .result) (omega arith) (w .ensures .0) (c .before .if2 .taken))
+    let b = c .before .before in
+    did-stop _ _ 1 (out b) (answers b) (c .stopped2 .ensures)
+    (at-unknown table (s b) (at b) (room b) (b .body .result) (omega arith) (width-is b) (c .before .if2 .taken))
 
-add-body : tie.Need-add-body
-add-body c = search needs
+add-place : tie.Need-add-place
+add-place c = search needs
 
 sub-if3 : tie.Need-sub-if3
 sub-if3 c = search needs
@@ -49,23 +95,21 @@ stopped-requires-3 c κs = search needs
 
 returns-3 : tie.Need-returns-3
 returns-3 c =
-    let a = c .before .before .before .before .before .before .before .before .args in
-    let w = c .before .before .before .width-of in
-    let room = length (a .answers .now) - a .out in
-    did-stop _ _ 2 (a .out) (a .answers .now) (c .stopped3 .ensures)
-    (at-cut table (a .requests .now) (a .at) room (w .result) (omega arith) (w .ensures .0) (c .before .before .if2 .left) (c .before .if3 .taken))
+    let b = c .before .before .before in
+    did-stop _ _ 2 (out b) (answers b) (c .stopped3 .ensures)
+    (at-cut table (s b) (at b) (room b) (b .body .result) (omega arith) (width-is b) (c .before .before .if2 .left) (omega arith))
 
 get-requires : tie.Need-get-requires
 get-requires c κs = search needs
 
-reply-requires : tie.Need-reply-requires
-reply-requires c κs = subst (λ (k : ℕ). c .get .result < 256 ^ k) (c .before .before .before .width-of .ensures .0) (c .get .ensures .1)
+reply-to-requires : tie.Need-reply-to-requires
+reply-to-requires c κs = search needs
 
 add-n : tie.Need-add-n
-add-n c = omega (arith, c .before .reply .ensures .1 .0)
+add-n c = omega (arith, reply-short (c .before))
 
 add-n-2 : tie.Need-add-n-2
-add-n-2 c = omega (arith, c .before .before .reply .ensures .1 .0, c .before .before .reply .ensures .1 .1)
+add-n-2 c = omega (arith, reply-short (c .before .before))
 
 sub-if4 : tie.Need-sub-if4
 sub-if4 c = search needs
@@ -75,20 +119,14 @@ stopped-requires-4 c κs = search needs
 
 returns-4 : tie.Need-returns-4
 returns-4 c =
-    let a = c .before .before .before .before .before .before .before .before .before .before .before .before .before .args in
-    let w = c .before .before .before .before .before .before .before .before .width-of in
-    let r = c .before .before .before .before .reply in
-    let g = c .before .before .before .before .before .get in
-    let room = length (a .answers .now) - a .out in
-    let kind = getD (a .requests .now) (a .at) 0 in
-    let ex : bytesOf (r .result) ≡ bytesOf (rowIn table kind .reply (word (w .result) (drop (a .at + 1) (a .requests .now)))) =
-    ap bytesOf (r .ensures .0 ∙ ap (rowIn table kind .reply) (g .ensures .0)) in
-    let n = length-bytes (r .result) in
-    did-stop _ _ 3 (a .out) (a .answers .now) (c .stopped4 .ensures)
-    (at-full table (a .requests .now) (a .at) room (w .result) (omega arith) (w .ensures .0) (bytesOf (r .result)) ex (c .before .before .before .before .before .before .before .if2 .left) (c .before .before .before .before .before .before .if3 .left) (omega arith))
+    let p = c .before .before .before .before in
+    let b = looked p in
+    let n = length-bytes (p .reply-to .result) in
+    did-stop _ _ 3 (out b) (answers b) (c .stopped4 .ensures)
+    (at-full table (s b) (at b) (room b) (b .body .result) (omega arith) (width-is b) (reply p) (reply-is p) (p .before .before .before .if2 .left) (omega arith) (omega arith))
 
-write-reply-requires : tie.Need-write-reply-requires
-write-reply-requires c κs = omega (arith, length-bytes (c .before .before .before .before .reply .result))
+write-requires : tie.Need-write-requires
+write-requires c κs = search needs
 
 add-t14 : tie.Need-add-t14
 add-t14 c = search needs
@@ -98,18 +136,13 @@ same-length c = search needs
 
 returns-5 : tie.Need-returns-5
 returns-5 c =
-    let a = c .before .before .before .before .before .before .before .before .before .before .before .before .before .before .before .before .args in
-    let w = c .before .before .before .before .before .before .before .before .before .before .before .width-of in
-    let r = c .before .before .before .before .before .before .before .reply in
-    let g = c .before .before .before .before .before .before .before .before .get in
-    let room = length (a .answers .now) - a .out in
-    let kind = getD (a .requests .now) (a .at) 0 in
-    let ex : bytesOf (r .result) ≡ bytesOf (rowIn table kind .reply (word (w .result) (drop (a .at + 1) (a .requests .now)))) =
-    ap bytesOf (r .ensures .0 ∙ ap (rowIn table kind .reply) (g .ensures .0)) in
-    let n = length-bytes (r .result) in
-    did-took _ (w .result) _ (a .out) (bytesOf (r .result)) (a .answers .now) (c .before .before .write-reply .last .0)
-    (at-whole table (a .requests .now) (a .at) room (w .result) (omega arith) (w .ensures .0) (bytesOf (r .result)) ex (c .before .before .before .before .before .before .before .before .before .before .if2 .left) (c .before .before .before .before .before .before .before .before .before .if3 .left) (omega arith))
-    (sym n) (c .before .before .write-reply .ensures)
+    let w = c .before .before in
+    let p = w .before .before .before .before .before in
+    let b = looked p in
+    let n = length-bytes (p .reply-to .result) in
+    did-took _ (b .body .result) _ (out b) (reply p) (answers b) (w .write .last .0)
+    (at-whole table (s b) (at b) (room b) (b .body .result) (omega arith) (width-is b) (reply p) (reply-is p) (p .before .before .before .if2 .left) (omega arith) (omega arith))
+    (sym n) (w .write .ensures)
 
 pub step-spec : {M : Type 1} → statement M
 step-spec =
@@ -118,21 +151,21 @@ step-spec =
     stopped-requires
     returns
     shared-slice-read-kind
-    width-of-requires
+    body-requires
     stopped-requires-2
     returns-2
-    add-body
+    add-place
     sub-if3
     stopped-requires-3
     returns-3
     get-requires
-    reply-requires
+    reply-to-requires
     add-n
     add-n-2
     sub-if4
     stopped-requires-4
     returns-4
-    write-reply-requires
+    write-requires
     add-t14
     same-length
     returns-5)

@@ -1,0 +1,2 @@
+-- What the contracts determine: Unique.
+pub mod Unique

@@ -1,0 +1,22 @@
+-- `by_bits::erfcf_bits` meets its contract. Assumes nothing.
+use mathlib.Core.Path.{ap, _∙_}
+use lib.Ieee.{binary32, toBits}
+use borrow.Author.Needs.{needs}
+use Rattle.erff.specs.Erff.{erfcfS}
+use Rattle.by_bits.proofs.erfcf_bits.Statement.{statement}
+use Rattle.by_bits.proofs.erfcf_bits.Tie as tie
+
+of-bits-f32-requires : tie.Need-of-bits-f32-requires
+of-bits-f32-requires c κs = search needs
+
+erfcf-requires : tie.Need-erfcf-requires
+erfcf-requires c κs = search needs
+
+bits-of-f32-requires : tie.Need-bits-of-f32-requires
+bits-of-f32-requires c κs = search needs
+
+returns : tie.Need-returns
+returns c = c .bits-of-f32 .ensures ∙ ap (toBits binary32) (c .before .erfcf .ensures ∙ ap erfcfS (c .before .before .of-bits-f32 .ensures))
+
+pub erfcf-bits-spec : {M : Type 1} → statement M
+erfcf-bits-spec = tie.close (tie.spec of-bits-f32-requires erfcf-requires bits-of-f32-requires returns)

@@ -1,0 +1,2 @@
+-- What the functions by bits are.
+pub mod ByBits

@@ -1,0 +1,2 @@
+-- What numbers as bytes are.
+pub mod Digits

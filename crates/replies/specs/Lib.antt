@@ -1,0 +1,4 @@
+-- What the replies are. Read in this order.
+pub mod Reply
+pub mod Row
+pub mod Table

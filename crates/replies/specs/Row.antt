@@ -1,0 +1,21 @@
+-- A table of kinds, of any kind.
+use Prim.Native.Nat.{ℕ}
+use mathlib.Core.List.{List, [], _∷_}
+use lib.Dec.{eqb}
+use Rattle.words.specs.Pick.{pick}
+use Rattle.replies.specs.declared.Reply.{Reply}
+
+-- a kind, how many bytes its body has (one at least), and the reply to the number that they make
+pub record Row : Type 0 where
+  pub kind : ℕ
+  pub width : ℕ
+  pub reply : ℕ → Reply
+
+-- for a kind that is in no row: a body of no byte
+abbrev pub noRow : ℕ → Row
+noRow k = record { kind = k; width = 0; reply = λ b. record { head = 0; width = 0; bits = 0; more = 0; extra = 0 } }
+
+-- the row of a kind
+unfoldable pub rowIn : List Row → ℕ → Row
+rowIn [] k = noRow k
+rowIn (r ∷ rs) k = pick (eqb k (r .kind)) r (rowIn rs k)
