@@ -1,5 +1,5 @@
--- A bit pattern and its value, over the format: which patterns are a NaN's, what the sign bit is worth, and the pattern without it.
--- Assumes nothing.
+-- A bit pattern and its value, over the format: which patterns are a NaN's, what the sign bit is worth, and the pattern without it, which is that of the
+-- size (`size-pattern`; the size itself: `fabs-fin`, `fabs-neg`). Assumes nothing.
 use mathlib.Core.Path.{_≡_, refl, sym, ap, _∙_, subst}
 use mathlib.Core.Logic.{inl, inr}
 use Prim.Native.Nat.{ℕ, zero, suc, _+_, _-_, _*_, _/_, _%_, _^_, _<_, _≤_}
@@ -10,7 +10,7 @@ use lib.IntN.{ℤ}
 use lib.Dec.{T, leb}
 use lib.Arith.{digits-div, digits-mod}
 use lib.Pow as Pow
-use lib.Ieee.{Float, nan, inf, fin, Format, binary32, binary64, prec, low, up, down, size, hid, ones, top, toBits, ofFields, ofBits, isNan, nanBits, ne, eq, fits}
+use lib.Ieee.{Float, nan, inf, fin, Format, binary32, binary64, prec, low, up, down, size, hid, ones, top, toBits, ofFields, ofBits, isNan, nanBits, neg, ne, eq, fits}
 use lib.Ieee.Bits.{is-false, ofBits-toBits, nanBits-is, nanBits-above}
 use lib.Ieee.Compare.{differs-from-itself}
 use lib.Ieee.Exact.{HasValue}
@@ -63,6 +63,29 @@ pub unsigned-rest : (f : Format) (s : Bool) (m : ℕ) (e : ℤ) → T (fits f (f
 unsigned-rest f true m e h =
     ap (λ (n : ℕ). n % top f) (toBits-neg f m e) ∙ add-mod-left (top f) _ ∙ mod-eq-of-lt (unsigned-lt f m e h)
 unsigned-rest f false m e h = mod-eq-of-lt (unsigned-lt f m e h)
+
+-- the bits of -x without the sign are those of x
+pub rest-neg : (f : Format) (x : Float) → toBits f (neg x) % top f ≡ toBits f x % top f
+unfolding neg toBits
+rest-neg f nan = refl
+rest-neg binary32 (inf true) = refl
+rest-neg binary32 (inf false) = refl
+rest-neg binary64 (inf true) = refl
+rest-neg binary64 (inf false) = refl
+rest-neg f (fin true m e) = sym (ap (λ (n : ℕ). n % top f) (toBits-neg f m e) ∙ add-mod-left (top f) (toBits f (fin false m e)))
+rest-neg f (fin false m e) = ap (λ (n : ℕ). n % top f) (toBits-neg f m e) ∙ add-mod-left (top f) (toBits f (fin false m e))
+
+-- ---- the size
+pub fabs-fin : (s : Bool) (m : ℕ) (e : ℤ) → fabsS (fin s m e) ≡ fin false m e
+unfolding fabsS
+fabs-fin s m e = refl
+
+-- that of -x is that of x
+pub fabs-neg : (x : Float) → fabsS (neg x) ≡ fabsS x
+unfolding fabsS neg
+fabs-neg nan = refl
+fabs-neg (inf s) = refl
+fabs-neg (fin s m e) = refl
 
 -- ---- the pattern without its sign bit is the size's
 nan-rest : (f : Format) → ofBits f (toBits f nan % top f) ≡ nan
