@@ -11,7 +11,8 @@ use Rattle.rounding.proofs.Range.{ieval, halvedTest}
 use Rattle.words.specs.F64.{_⊖_, bits}
 use Rattle.erf.specs.Plan as Plan
 use Rattle.erf.specs.Erf64.{erf64, erfS, erfcS}
-use Rattle.erf.proofs.SmallSum.{hornerE, sumE}
+use Rattle.poly.proofs.HornerExpr.{hornerE}
+use Rattle.erf.proofs.SmallSum.{sumE}
 use Rattle.erf.proofs.Regular.{Regular}
 use Rattle.erf.proofs.Mirror as Mirror
 

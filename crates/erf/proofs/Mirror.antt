@@ -16,12 +16,11 @@ use Rattle.rounding.proofs.Signed.{Signed, round-neg, round-signed}
 use Rattle.rounding.proofs.Odd.{neg-neg, mul-neg, mul-neg-right, mul-neg-both, add-odd}
 use Rattle.words.specs.Pick.{pick}
 use Rattle.words.specs.Bits.{signS}
-use Rattle.words.proofs.PatternLaws.{fits-any-sign}
+use Rattle.words.proofs.PatternLaws.{fits-any-sign, fabs-neg}
 use Rattle.words.proofs.CutLaws.{sign-of}
 use Rattle.poly.specs.Horner.{hornerS}
 use Rattle.erf.specs.Plan.{Plan}
 use Rattle.erf.specs.Plan as Plan
-use Rattle.erf.proofs.SignBit.{fabs-neg}
 use Rattle.erf.proofs.Regular.{Regular, valueAt, ix-neg, ix-finite, from-cut, small-plus}
 
 -- ---- a sum of two values with no minus sign turns with both

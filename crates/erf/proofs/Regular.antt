@@ -14,14 +14,12 @@ use lib.Dec.{T}
 use lib.Pow.{pow-pos}
 use lib.Ieee.{Float, nan, inf, fin, Format, top, add, sub, mul, neg, le, ofBits, toBits, fits}
 use lib.Ieee.Positive.{positive, between}
-use Rattle.rounding.proofs.BitOrder.{endless, toBits-under}
+use Rattle.rounding.proofs.BitOrder.{endless}
 use Rattle.rounding.proofs.Range.{In, halvedTest, halved}
-use Rattle.words.specs.Fabs.{fabsS}
-use Rattle.words.proofs.PatternLaws.{unsigned-rest}
-use Rattle.words.proofs.CutLaws.{bits-from, from-bits, upto-bits}
+use Rattle.words.proofs.PatternLaws.{rest-neg}
+use Rattle.words.proofs.CutLaws.{size-under, bits-from, from-bits, upto-bits}
 use Rattle.erf.specs.Plan.{Plan}
 use Rattle.erf.specs.Plan as Plan
-use Rattle.erf.proofs.SignBit.{rest-neg}
 use Rattle.erf.proofs.SmallSum.{sumE, sum-is}
 
 -- the value at a cut, where ix is without the pattern's k low bits
@@ -74,19 +72,15 @@ module _ (p : Plan) (r : Regular p) where
     x = fin false m e
 
     pub ix-finite : p .ix x < p .notFinite
-    ix-finite =
-        rw (r .ix-is x)
-        (div-lt-iff-lt-mul unit-pos .1 (rw (r .infinity-is, unsigned-rest f false m e F) (toBits-under f m e F)))
+    ix-finite = rw (r .ix-is x) (div-lt-iff-lt-mul unit-pos .1 (rw (r .infinity-is) (size-under f false m e F)))
 
     pub from-cut : T (le (at (p .at0·84375)) x) → p .at0·84375 ≤ p .ix x
-    unfolding fabsS
-    from-cut h = rw (r .ix-is x) (le-div-iff-mul-le unit-pos .1 (bits-from f x F tt (p .at0·84375 * unit) cut-inside h))
+    from-cut h = rw (r .ix-is x) (le-div-iff-mul-le unit-pos .1 (bits-from f false m e F (p .at0·84375 * unit) cut-inside h))
 
     small-in : p .at2^-28 ≤ p .ix x → p .ix x < p .at0·84375 → In (at (p .at2^-28)) (at (p .at0·84375)) x
-    unfolding fabsS
     small-in lo hi = (
-      from-bits f x F tt (p .at2^-28 * unit) (le-div-iff-mul-le unit-pos .0 (rw (r .ix-is x) at lo)),
-      upto-bits f x F tt (p .at0·84375 * unit) cut-inside (le-of-lt (div-lt-iff-lt-mul unit-pos .0 (rw (r .ix-is x) at hi))),
+      from-bits f false m e F (p .at2^-28 * unit) (le-div-iff-mul-le unit-pos .0 (rw (r .ix-is x) at lo)),
+      upto-bits f false m e F (p .at0·84375 * unit) cut-inside (le-of-lt (div-lt-iff-lt-mul unit-pos .0 (rw (r .ix-is x) at hi))),
     )
 
     pub small-plus : p .at2^-28 ≤ p .ix x → p .ix x < p .at0·84375 → T (positive (add f x (mul f x (Plan.smallS p x))))

@@ -10,7 +10,8 @@ use lib.Ieee.{Float, binary32, add, sub, mul, div, neg, le, ofInt, ofBits, toBit
 use Rattle.rounding.proofs.Range.{ieval, halvedTest}
 use Rattle.words.specs.F32.{_⊖_, bits}
 use Rattle.erf.specs.Plan as Plan
-use Rattle.erf.proofs.SmallSum.{hornerE, sumE}
+use Rattle.poly.proofs.HornerExpr.{hornerE}
+use Rattle.erf.proofs.SmallSum.{sumE}
 use Rattle.erf.proofs.Regular.{Regular}
 use Rattle.erf.proofs.Mirror as Mirror
 use Rattle.erff.specs.Erff.{erf32, erffS, erfcfS}

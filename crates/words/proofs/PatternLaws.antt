@@ -18,6 +18,8 @@ use lib.Ieee.Fits.{down-pos}
 use lib.Ieee.Nearest.{div-same}
 use borrow.Author.Tests.{lt-ltb, le-ltb, le-leb, lt-leb, ltb-false}
 use Rattle.rounding.proofs.BitOrder.{fields-val, toBits-under, toBits-neg, scaled, bitVal, hid-pos, endless, under-top, bits-open}
+use Rattle.rounding.proofs.Cut.{cut, cut-is}
+use Rattle.words.specs.Bits.{withLowWordS, withHighWordS}
 use Rattle.words.specs.Fabs.{fabsS}
 
 -- ---- the NaN
@@ -107,6 +109,14 @@ size-pattern f (inf s) q = inf-rest f s
 size-pattern f (fin s m e) q =
     let h = fits-any-sign f s false m e (subst T (sym q) tt) in
     ap (ofBits f) (unsigned-rest f s m e h) ∙ ofBits-toBits f (fin false m e) h
+
+-- ---- an f64 with one word cleared
+pub low-cleared : (x : Float) → withLowWordS x 0 ≡ cut binary64 32 x
+low-cleared x = ap (ofBits binary64) (add-zero (toBits binary64 x / 2 ^ 32 * 2 ^ 32)) ∙ sym (cut-is binary64 32 x)
+
+pub high-alone : (hi : ℕ) → withHighWordS (ofBits binary64 0) hi ≡ ofBits binary64 (hi * 2 ^ 32)
+unfolding toBits ofBits
+high-alone hi = ap (ofBits binary64) (add-zero (hi * 2 ^ 32))
 
 -- ---- the value of a pattern, in units of the format's smallest value
 -- the digits' field is the same with the sign bit and without
