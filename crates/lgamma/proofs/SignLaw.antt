@@ -5,36 +5,26 @@
 use mathlib.Core.Path.{_≡_, refl}
 use Prim.Native.Nat.{ℕ, _*_, _/_, _%_, _<_}
 use native.Mathlib.Omega.{arith}
-use mathlib.Core.Bool.{Bool, true, false}
+use mathlib.Core.Bool.{true, false}
 use lib.Dec.{T, lit<, lit≤}
 use lib.IntN.{ℤ, pos, negsuc}
 use lib.Ieee.{Float, fin, inf, binary64, div, fits, toBits, ofBits, up, down}
-use Rattle.rounding.proofs.BitOrder.{toBits-under}
-use Rattle.words.specs.Fabs.{fabsS}
-use Rattle.words.specs.Bits.{sizeWordS}
-use Rattle.words.proofs.CutLaws.{from-word, upto-word}
-use Rattle.words.proofs.PatternLaws.{fits-any-sign, unsigned-rest}
+use Rattle.words.proofs.CutLaws.{word-under, from-word, upto-word}
 use Rattle.sinpi.proofs.SignLaws.{sinpi-even, sinpi-odd, sinpi-whole}
 use Rattle.lgamma.specs.Lgamma64.{lgamma64, lgammaS}
 use Rattle.lgamma.proofs.Poles.{Regular}
 use Rattle.lgamma.proofs.PlanSigns as Plan
 use Rattle.lgamma.proofs.PlanSigns.{signOf}
 
--- the size word of a finite value is below that of the infinity
-pub word-lt : (s : Bool) (m : ℕ) (e : ℤ) → T (fits binary64 (fin s m e)) → sizeWordS (fin s m e) < 0x7FF00000
-word-lt s m e F =
-    let G = fits-any-sign binary64 s false m e F in
-    omega (arith, unsigned-rest binary64 s m e G, toBits-under binary64 m e G)
-
-regular : Regular lgamma64
-unfolding fabsS toBits ofBits div
+pub regular : Regular lgamma64
+unfolding toBits ofBits div
 regular = record {
   ix-nan = lit≤ tt;
   ix-inf = λ s. elim s [ true ↦ lit≤ tt | false ↦ lit≤ tt ];
-  ix-finite = word-lt;
+  ix-finite = word-under;
   n = 69;
-  upto-tiny = λ m e F h. upto-word (fin true m e) F tt 0x3B90000000000000 (lit< tt) h;
-  from-tiny = λ m e F h. from-word (fin true m e) F tt 0x3B90000000000000 (omega arith);
+  upto-tiny = λ m e F h. upto-word true m e F 0x3B90000000000000 (lit< tt) h;
+  from-tiny = λ m e F h. from-word true m e F 0x3B90000000000000 (omega arith);
   sine-whole = sinpi-whole;
   sine-even = sinpi-even;
   sine-odd = sinpi-odd;
