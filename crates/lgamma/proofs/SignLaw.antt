@@ -1,6 +1,6 @@
--- The sign that lgamma_r reports, for every finite argument but zero: -1 exactly where the argument carries a minus sign, is no whole number,
--- and the whole part of its size is even. A finite argument is ±(m * up e) / (down e): it is whole where that leaves no remainder, and the whole
--- part of its size is the quotient. (The zeros, the infinities and the NaN stand in SpecialValues.) `lgamma-sign` says it of every argument at once.
+-- The sign that lgamma_r reports, for every finite argument: -1 exactly where the argument carries a minus sign, is zero or no whole number, and the
+-- whole part of its size is even. A finite argument is ±(m * up e) / (down e): it is whole where that leaves no remainder, and the whole part of its
+-- size is the quotient. `lgamma-sign` says it of every argument at once.
 -- Assumes nothing.
 use mathlib.Core.Path.{_≡_, refl}
 use Prim.Native.Nat.{ℕ, _*_, _/_, _%_, _<_}
@@ -41,6 +41,10 @@ plus m e F = Plan.plus lgamma64 regular m e F
 pub at-pole : (m : ℕ) (e : ℤ) → T (fits binary64 (fin true m e)) → 0 < m → m * up e % down e ≡ 0
     → lgammaS (fin true m e) ≡ record { value = inf false; sign = pos 1 }
 at-pole m e F = Plan.at-pole lgamma64 regular m e F
+
+-- -1 at -0
+pub minus-zero : (e : ℤ) → T (fits binary64 (fin true 0 e)) → lgammaS (fin true 0 e) .sign ≡ negsuc 0
+minus-zero e F = Plan.minus-zero lgamma64 regular 0 e F refl
 
 -- elsewhere -1 where the whole part of the size is even
 pub minus-even : (m : ℕ) (e : ℤ) → T (fits binary64 (fin true m e)) → (m * up e % down e ≡ 0 → ⊥) → m * up e / down e % 2 ≡ 0
