@@ -26,10 +26,10 @@ annex-f p r = record {
   erf-zero = λ s.
       sym (code.erf-tiny p refl refl (lt-trans (r .ix-zero s) (lt-trans (r .small-cuts) (r .below-infinity))) (lt-trans (r .ix-zero s) (r .small-cuts)) (r .ix-zero s))
       ∙ r .at-zero s;
-  erf-inf = sym (code.erf-not-finite p refl refl (r .ix-inf false)) ∙ r .erf-at-inf;
-  erf-minus-inf = sym (code.erf-not-finite p refl refl (r .ix-inf true)) ∙ r .erf-at-minus-inf;
-  erf-nan = sym (code.erf-not-finite p refl refl (r .ix-nan)) ∙ r .erf-at-nan;
-  erfc-inf = sym (code.erfc-not-finite p refl refl (r .ix-inf false)) ∙ r .erfc-at-inf;
-  erfc-minus-inf = sym (code.erfc-not-finite p refl refl (r .ix-inf true)) ∙ r .erfc-at-minus-inf;
-  erfc-nan = sym (code.erfc-not-finite p refl refl (r .ix-nan)) ∙ r .erfc-at-nan;
+  erf-inf = sym (code.erf-not-finite p refl refl (r .ix-inf false)) ∙ r .erf-ends .1;
+  erf-minus-inf = sym (code.erf-not-finite p refl refl (r .ix-inf true)) ∙ r .erf-ends .2;
+  erf-nan = sym (code.erf-not-finite p refl refl (r .ix-nan)) ∙ r .erf-ends .0;
+  erfc-inf = sym (code.erfc-not-finite p refl refl (r .ix-inf false)) ∙ r .erfc-ends .1;
+  erfc-minus-inf = sym (code.erfc-not-finite p refl refl (r .ix-inf true)) ∙ r .erfc-ends .2;
+  erfc-nan = sym (code.erfc-not-finite p refl refl (r .ix-nan)) ∙ r .erfc-ends .0;
 }

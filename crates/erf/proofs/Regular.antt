@@ -57,12 +57,8 @@ pub record Regular (p : Plan) : Type 0 where
   -- what is not finite has its ix from the infinity's on; the formulas there
   pub ix-nan : p .notFinite ≤ p .ix nan
   pub ix-inf : (s : Bool) → p .notFinite ≤ p .ix (inf s)
-  pub erf-at-nan : erfEnd p nan ≡ nan
-  pub erf-at-inf : erfEnd p (inf false) ≡ p .1·0
-  pub erf-at-minus-inf : erfEnd p (inf true) ≡ neg (p .1·0)
-  pub erfc-at-nan : erfcEnd p nan ≡ nan
-  pub erfc-at-inf : erfcEnd p (inf false) ≡ zero+
-  pub erfc-at-minus-inf : erfcEnd p (inf true) ≡ p .2·0
+  pub erf-ends : (erfEnd p nan ≡ nan) × (erfEnd p (inf false) ≡ p .1·0) × (erfEnd p (inf true) ≡ neg (p .1·0))
+  pub erfc-ends : (erfcEnd p nan ≡ nan) × (erfcEnd p (inf false) ≡ zero+) × (erfcEnd p (inf true) ≡ p .2·0)
   -- a zero is below every cut; the formula there
   pub ix-zero : (s : Bool) → p .ix (fin s 0 (pos 0)) < p .at2^-28
   pub small-cuts : p .at2^-28 < p .at0·84375
