@@ -13,12 +13,12 @@ use Rattle.erf.proofs.Regular.{Regular}
 pub record AnnexF (p : Plan) : Type 0 where
   -- erf of either zero is that zero; of +inf 1, of -inf -1, of a NaN a NaN
   pub erf-zero : (s : Bool) → Plan.erfS p (fin s 0 (pos 0)) ≡ fin s 0 (pos 0)
-  pub erf-inf : Plan.erfS p (inf false) ≡ p .one
-  pub erf-minus-inf : Plan.erfS p (inf true) ≡ neg (p .one)
+  pub erf-inf : Plan.erfS p (inf false) ≡ p .1·0
+  pub erf-minus-inf : Plan.erfS p (inf true) ≡ neg (p .1·0)
   pub erf-nan : Plan.erfS p nan ≡ nan
   -- erfc of +inf is +0, of -inf 2, of a NaN a NaN
   pub erfc-inf : Plan.erfcS p (inf false) ≡ zero+
-  pub erfc-minus-inf : Plan.erfcS p (inf true) ≡ p .two
+  pub erfc-minus-inf : Plan.erfcS p (inf true) ≡ p .2·0
   pub erfc-nan : Plan.erfcS p nan ≡ nan
 
 pub annex-f : (p : Plan) → Regular p → AnnexF p

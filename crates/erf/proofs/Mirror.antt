@@ -149,6 +149,6 @@ module _ (p : Plan) where
           → Plan.erfcS p (neg x) ≡ sub f (p .2·0) (Plan.erfcS p x)
       go nan F h a = absurd a
       go (inf true) F h a = absurd a
-      go (inf false) F h a = let v = annex-f p r in v .erfc-minus-inf ∙ sym (ap (sub f (p .two)) (v .erfc-inf) ∙ r .two-less-zero)
+      go (inf false) F h a = let v = annex-f p r in v .erfc-minus-inf ∙ sym (ap (sub f (p .2·0)) (v .erfc-inf) ∙ r .two-less-zero)
       go (fin true m e) F h a = absurd a
       go (fin false m e) F h a = plus-mirror r m e F (from-cut p r m e F h)

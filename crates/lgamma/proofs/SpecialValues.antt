@@ -28,8 +28,8 @@ minus v = record { value = v; sign = negsuc 0 }
 pub record AnnexF (p : Plan) : Type 0 where
   pub at-nan : Plan.lgammaS p nan ≡ plus nan
   pub at-infinity : (s : Bool) → Plan.lgammaS p (inf s) ≡ plus (inf false)
-  pub at-one : Plan.lgammaS p (p .one) ≡ plus zero+
-  pub at-two : Plan.lgammaS p (p .two) ≡ plus zero+
+  pub at-one : Plan.lgammaS p (p .1·0) ≡ plus zero+
+  pub at-two : Plan.lgammaS p (p .2·0) ≡ plus zero+
   pub at-zero : Plan.lgammaS p zero+ ≡ plus (inf false)
   pub at-minus-zero : Plan.lgammaS p (fin true 0 (pos 0)) ≡ minus (inf false)
 
@@ -43,8 +43,8 @@ pub record OneOrTwo (p : Plan) (x : Float) : Type 0 where
   pub finite-ix : p .ix x < p .notFinite
 
 pub record Special (p : Plan) : Type 0 where
-  pub one : OneOrTwo p (p .one)
-  pub two : OneOrTwo p (p .two)
+  pub one : OneOrTwo p (p .1·0)
+  pub two : OneOrTwo p (p .2·0)
   pub zero-fits : (s : Bool) → T (fits (p .format) (fin s 0 (pos 0)))
   pub zero-ix : (s : Bool) → p .ix (fin s 0 (pos 0)) < p .tiny
   pub log-of-zero : p .log zero+ ≡ inf true
@@ -76,8 +76,8 @@ module _ (p : Plan) (r : Regular p) where
     annex-f = record {
       at-nan = rw (le-leb (p .notFinite) (p .ix nan) (r .ix-nan)) refl;
       at-infinity = λ s. rw (le-leb (p .notFinite) (p .ix (inf s)) (r .ix-inf s)) (elim s [ true ↦ refl | false ↦ refl ]);
-      at-one = one-or-two (p .one) (k .one);
-      at-two = one-or-two (p .two) (k .two);
+      at-one = one-or-two (p .1·0) (k .one);
+      at-two = one-or-two (p .2·0) (k .two);
       at-zero = at-plus-zero;
       at-minus-zero = at-negative-zero;
     }

@@ -8,7 +8,7 @@ use lib.Dec.{leb, eqb}
 use lib.Ieee.{Float}
 use borrow.Author.Tests.{lt-leb, le-ltb, ne-eqb}
 use Rattle.words.specs.Pick.{pick}
-use Rattle.words.specs.F64.{_⊗_, _⊘_, bits}
+use Rattle.words.specs.F64.{_⊗_, _⊘_, 1·0}
 use Rattle.words.specs.Bits.{highWordS, lowWordS}
 use Rattle.words.specs.Fabs.{fabsS}
 use Rattle.sqrt.specs.Sqrt.{sqrtS}
@@ -16,18 +16,14 @@ use Rattle.pow_log.specs.Log2.{log2S}
 use Rattle.pow_exp.specs.Exp2.{productS}
 use Rattle.pow.specs.Pow.{yisintS, signedS, plainS, finiteS, specialYS, powAtS, powS}
 
--- 1.0
-abbrev pub one : Float
-one = bits 0x3FF0000000000000
-
 -- what pow may answer, for x with the high word hx and y
 pub data Course (x y : Float) (hx : ℕ) : Float → Type 0 where
-  at-zero : Course x y hx one
+  at-zero : Course x y hx 1·0
   at-one : Course x y hx x
-  at-minus-one : Course x y hx (one ⊘ x)
+  at-minus-one : Course x y hx (1·0 ⊘ x)
   at-two : Course x y hx (x ⊗ x)
   at-half : Course x y hx (sqrtS x)
-  power : Course x y hx (productS one y (log2S (fabsS x) hx))
+  power : Course x y hx (productS 1·0 y (log2S (fabsS x) hx))
 
 pick-course : {x y : Float} {hx : ℕ} (b : Bool) (u v : Float) → Course x y hx u → Course x y hx v → Course x y hx (pick b u v)
 pick-course true u v p q = p
@@ -51,8 +47,8 @@ module _ (x y : Float) (hx lx hy ly : ℕ) (above : 0x3FF00000 < hx) (below : hx
   unfolding specialYS
   special =
       simp (ne-eqb (hy % 0x80000000) 0x7FF00000 (λ e. omega arith), and-false)
-      (pick-course (eqb ly 0 && eqb (hy % 0x80000000) 0x3FF00000) (pick (leb 0x80000000 hy) (one ⊘ x) x) _
-      (pick-course (leb 0x80000000 hy) (one ⊘ x) x at-minus-one at-one)
+      (pick-course (eqb ly 0 && eqb (hy % 0x80000000) 0x3FF00000) (pick (not (leb 0x80000000 hy)) x (1·0 ⊘ x)) _
+      (pick-course (not (leb 0x80000000 hy)) x (1·0 ⊘ x) at-one at-minus-one)
       (pick-course (eqb ly 0 && eqb hy 0x40000000) (x ⊗ x) _ at-two
       (pick-course (eqb ly 0 && eqb hy 0x3FE00000 && not (leb 0x80000000 hx)) (sqrtS x) _ at-half finite)))
 
@@ -67,7 +63,7 @@ module _ (x y : Float) (hx lx hy ly : ℕ) (above : 0x3FF00000 < hx) (below : hx
         le-ltb 0x7FF00000 (hy % 0x80000000) (omega arith),
         ne-eqb (hy % 0x80000000) 0x7FF00000 (λ e. omega arith),
       )
-      (pick-course (eqb (hy % 0x80000000) 0 && eqb ly 0) one _ at-zero special)
+      (pick-course (eqb (hy % 0x80000000) 0 && eqb ly 0) 1·0 _ at-zero special)
 
 pub course : (x y : Float) → 0x3FF00000 < highWordS x → highWordS x < 0x7FF00000 → highWordS y % 2 ^ 31 ≤ 0x41E00000
     → Course x y (highWordS x) (powS x y)

@@ -7,7 +7,7 @@ use native.Mathlib.Omega.{arith}
 use lib.IntN.{pos}
 use lib.Dec.{ltb}
 use lib.Ieee.{Float}
-use borrow.Author.Tests.{le-leb, lt-leb, ltb-true}
+use borrow.Author.Tests.{le-ltb, lt-leb, ltb-true}
 use Rattle.words.specs.F64.{_⊕_, _⊖_, _⊗_}
 use Rattle.words.specs.Bits.{highWordS, lowWordS, withLowWordS}
 use Rattle.pow_log.specs.declared.Parts.{Parts}
@@ -37,4 +37,4 @@ product-within s y t h =
 
 pub exp2-near : (s p·h p·l : Float) (j : ℕ) → j % 2 ^ 31 ≤ 0x3FE00000 → exp2S s p·h p·l j ≡ s ⊗ scaledS (fractionS p·h p·l) (pos 0)
 unfolding exp2S
-exp2-near s p·h p·l j h = simp (le-leb _ _ h)
+exp2-near s p·h p·l j h = simp (le-ltb _ _ h)

@@ -6,7 +6,7 @@ use lib.Dec.{T}
 use lib.Ieee.{Float, binary64, fits}
 use lib.Ieee.Fits.{sub-fits}
 use Rattle.rounding.proofs.Range.{Expr, var, con, plus, minus, times, over, share, eval}
-use Rattle.words.specs.F64.{_⊕_, _⊖_, _⊗_, _⊘_, bits}
+use Rattle.words.specs.F64.{_⊕_, _⊖_, _⊗_, _⊘_, 1·0, 2·0}
 use Rattle.words.specs.Bits.{withLowWordS}
 use Rattle.poly.proofs.HornerExpr.{hornerE, horner-is}
 use Rattle.pow_exp.specs.Exp2.{P, LG2, LG2·H, LG2·L, fractionS}
@@ -20,8 +20,8 @@ fractionE =
     (share (minus (var 1) (minus (var 0) (var 2)))
     (share (times (var 1) (var 1))
     (share (minus (var 2) (times (var 0) (hornerE binary64 P (var 0))))
-    (share (minus (over (times (var 3) (var 0)) (minus (var 0) (con (bits 0x4000000000000000)))) (plus (var 2) (times (var 3) (var 2))))
-    (minus (con (bits 0x3FF0000000000000)) (minus (var 0) (var 4)))))))))
+    (share (minus (over (times (var 3) (var 0)) (minus (var 0) (con 2·0))) (plus (var 2) (times (var 3) (var 2))))
+    (minus (con 1·0) (minus (var 0) (var 4)))))))))
 
 -- t and e
 abbrev pub tOf : Float → Float → Float
@@ -34,7 +34,7 @@ eOf p·h p·l = p·l ⊖ (tOf p·h p·l ⊖ p·h)
 last : Float → Float → Float → Float → Float
 last z w t R =
     let t1 = z ⊖ t ⊗ R in
-    bits 0x3FF0000000000000 ⊖ ((z ⊗ t1) ⊘ (t1 ⊖ bits 0x4000000000000000) ⊖ (w ⊕ z ⊗ w) ⊖ z)
+    1·0 ⊖ ((z ⊗ t1) ⊘ (t1 ⊖ 2·0) ⊖ (w ⊕ z ⊗ w) ⊖ z)
 
 pub fraction-is : (p·h p·l : Float) → eval binary64 (tOf p·h p·l ∷ eOf p·h p·l ∷ []) fractionE ≡ fractionS p·h p·l
 unfolding eval fractionS last

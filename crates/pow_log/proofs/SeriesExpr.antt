@@ -4,7 +4,7 @@ use mathlib.Core.Path.{_≡_, sym, ap}
 use mathlib.Core.List.{[], _∷_}
 use lib.Ieee.{Float, binary64}
 use Rattle.rounding.proofs.Range.{Expr, var, con, plus, minus, times, over, share, clear, eval}
-use Rattle.words.specs.F64.{bits}
+use Rattle.words.specs.F64.{1·0, 3·0}
 use Rattle.words.proofs.PatternLaws.{low-cleared}
 use Rattle.poly.proofs.HornerExpr.{hornerE, horner-is}
 use Rattle.pow_log.specs.declared.Parts.{Parts}
@@ -15,7 +15,7 @@ use Rattle.pow_log.proofs.Laws.{series}
 abbrev seriesE : Float → Float → Float → Expr → Expr
 seriesE bp dp·h dp·l e =
     share (minus (var 0) (con bp))
-    (share (over (con (bits 0x3FF0000000000000)) (plus (var 1) (con bp)))
+    (share (over (con 1·0) (plus (var 1) (con bp)))
     (share (times (var 1) (var 0))
     (share (clear 32 (times (var 2) (var 1)))
     (share (minus (var 4) (minus (var 5) (con bp)))
@@ -24,8 +24,8 @@ seriesE bp dp·h dp·l e =
     (share (times (times (var 0) (var 0)) (hornerE binary64 L (var 0)))
     (share (plus (var 0) (times (var 2) (plus (var 4) (var 5))))
     (share (times (var 5) (var 5))
-    (share (clear 32 (plus (plus (con (bits 0x4008000000000000)) (var 0)) (var 1)))
-    (share (minus (var 2) (minus (minus (var 0) (con (bits 0x4008000000000000))) (var 1)))
+    (share (clear 32 (plus (plus (con 3·0) (var 0)) (var 1)))
+    (share (minus (var 2) (minus (minus (var 0) (con 3·0)) (var 1)))
     (share (times (var 8) (var 1))
     (share (plus (times (var 7) (var 2)) (times (var 1) (var 10)))
     (share (clear 32 (plus (var 1) (var 0)))

@@ -26,7 +26,7 @@ use Rattle.rounding.proofs.Relative.{zero+, one+, quarter-, mul-le-self, part-f
 use Rattle.rounding.proofs.Error.{NearSum}
 use Rattle.rounding.proofs.Sums.{in-units, within, sum-near, difference-near, size-of-sum, size-of-difference, one-side}
 use Rattle.rounding.proofs.Range.{var, con, plus, times, eval, ieval, In, rangeTest, range}
-use Rattle.words.specs.F64.{_⊕_, _⊖_, _⊗_, _⊘_, bits}
+use Rattle.words.specs.F64.{_⊕_, _⊖_, _⊗_, _⊘_, 0·5}
 use Rattle.pow_range.proofs.FractionRange.{slight}
 use Rattle.pow_range.proofs.ProductSign.{eight}
 use Rattle.pow_range.proofs.PowSign.{from55, to190}
@@ -98,13 +98,13 @@ dy-range x F i =
     (rest-slight (x ⊕ GMHALF) GMHALF x (y .0) (y .1) (g .0) B (v .0) A (y .2) (g .2) (v .2) (swapped (y .0) (y .1) (v .0) A (g .0) B (2 ^ 1033) (y .3)) (t .1))
 
 -- dy (GMHALF + 0.5), and the same of -dy
-factor-test : T (rangeTest binary64 (neg one+) one+ (times (var 0) (con (GMHALF ⊕ bits 0x3FE0000000000000))) [] (neg slight) slight)
+factor-test : T (rangeTest binary64 (neg one+) one+ (times (var 0) (con (GMHALF ⊕ 0·5))) [] (neg slight) slight)
 unfolding ieval add mul le neg ofBits
 factor-test = tt
 
-pub factor-range : (d : Float) → In (neg slight) slight d → In (neg one+) one+ (d ⊗ (GMHALF ⊕ bits 0x3FE0000000000000))
+pub factor-range : (d : Float) → In (neg slight) slight d → In (neg one+) one+ (d ⊗ (GMHALF ⊕ 0·5))
 unfolding eval
-factor-range d i = range binary64 (neg one+) one+ (times (var 0) (con (GMHALF ⊕ bits 0x3FE0000000000000))) [] [] (neg slight) slight d factor-test tt i
+factor-range d i = range binary64 (neg one+) one+ (times (var 0) (con (GMHALF ⊕ 0·5))) [] [] (neg slight) slight d factor-test tt i
 
 -- ---- r + c r / y, for an r above zero
 

@@ -13,7 +13,7 @@ use Rattle.rounding.proofs.Signed.{le-neg}
 use Rattle.rounding.proofs.Order.{lt-le, le-of-not-lt, between-finite}
 use Rattle.rounding.proofs.Interval.{some}
 use Rattle.rounding.proofs.Range.{var, con, plus, minus, times, eval, ieval, In, rangeTest, range}
-use Rattle.words.specs.F64.{_⊕_, _⊖_, _⊗_, bits}
+use Rattle.words.specs.F64.{_⊕_, _⊖_, _⊗_, 0·5}
 use Rattle.exp.specs.Exp.{expS}
 use Rattle.exp.proofs.Cells.{least, one}
 use Rattle.exp.proofs.Bounds.{exp-range}
@@ -65,22 +65,22 @@ pub y-range : (x : Float) → Middle x → In from55 to190 (x ⊕ GMHALF)
 unfolding eval
 y-range x i = range binary64 from55 to190 (plus (var 0) (con GMHALF)) [] [] from-54 to184 x y-test tt i
 
-z-test : T (rangeTest binary64 (neg to184) to184 (minus (var 0) (con (bits 0x3FE0000000000000))) [] from-54 to184)
+z-test : T (rangeTest binary64 (neg to184) to184 (minus (var 0) (con 0·5)) [] from-54 to184)
 unfolding ieval sub le neg ofBits
 z-test = tt
 
-pub z-range : (x : Float) → Middle x → In (neg to184) to184 (x ⊖ bits 0x3FE0000000000000)
+pub z-range : (x : Float) → Middle x → In (neg to184) to184 (x ⊖ 0·5)
 unfolding eval
-z-range x i = range binary64 (neg to184) to184 (minus (var 0) (con (bits 0x3FE0000000000000))) [] [] from-54 to184 x z-test tt i
+z-range x i = range binary64 (neg to184) to184 (minus (var 0) (con 0·5)) [] [] from-54 to184 x z-test tt i
 
-half-test : T (rangeTest binary64 (neg ninety-two) ninety-two (times (con (bits 0x3FE0000000000000)) (var 0)) [] (neg to184) to184)
+half-test : T (rangeTest binary64 (neg ninety-two) ninety-two (times (con 0·5) (var 0)) [] (neg to184) to184)
 unfolding ieval mul le neg ofBits
 half-test = tt
 
 -- half of z, and of -z, as pow's exponent
-pub exponent-range : (z : Float) → In (neg to184) to184 z → In (neg ninety-two) ninety-two (bits 0x3FE0000000000000 ⊗ z)
+pub exponent-range : (z : Float) → In (neg to184) to184 z → In (neg ninety-two) ninety-two (0·5 ⊗ z)
 unfolding eval
-exponent-range z i = range binary64 (neg ninety-two) ninety-two (times (con (bits 0x3FE0000000000000)) (var 0)) [] [] (neg to184) to184 z half-test tt i
+exponent-range z i = range binary64 (neg ninety-two) ninety-two (times (con 0·5) (var 0)) [] [] (neg to184) to184 z half-test tt i
 
 -- ---- S(x) exp(-y)
 r-test : T (rangeTest binary64 over-340 under100 (times (var 0) (var 1)) (some least one ∷ []) over-40 under100)

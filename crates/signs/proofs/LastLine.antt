@@ -16,7 +16,7 @@ use Rattle.rounding.proofs.Signed.{Signed, value-finite, le-neg, round-signed, 
 use Rattle.rounding.proofs.Fraction.{unlike-false, mul-is}
 use Rattle.rounding.proofs.Odd.{neg-neg}
 use Rattle.rounding.proofs.Range.{In}
-use Rattle.words.specs.F64.{_⊕_, _⊗_, _⊘_, bits}
+use Rattle.words.specs.F64.{_⊕_, _⊗_, _⊘_, 0·5}
 use Rattle.pow.specs.Pow.{powS}
 use Rattle.pow_range.proofs.FractionRange.{slight}
 use Rattle.pow_range.proofs.PowSign.{from55, to190, pow-plus}
@@ -84,11 +84,11 @@ last-line f s (fin t m e) z h p = subst (λ (b : Bool). Signed b (mul f (mul f (
 last-signed : (s : Bool) (y d z r : Float) → T (fits binary64 y) → In from55 to190 y → In (neg slight) slight d → In (neg to184) to184 z
     → T (fits binary64 r) → Sized s r → Signed s (lastS y d z r)
 last-signed s y d z r Y i j k F h =
-    let c = d ⊗ (GMHALF ⊕ bits 0x3FE0000000000000) in
-    let x = bits 0x3FE0000000000000 ⊗ z in
+    let c = d ⊗ (GMHALF ⊕ 0·5) in
+    let x = 0·5 ⊗ z in
     subst (Signed s) (sym (last-is y d z r))
     (last-line binary64 s (r ⊕ c ⊗ r ⊘ y) (powS y x) (correction s r c y F h (factor-range d j) i)
-    (pow-plus y x Y (mul-fits binary64 (bits 0x3FE0000000000000) z) i (exponent-range z k)))
+    (pow-plus y x Y (mul-fits binary64 0·5 z) i (exponent-range z k)))
 
 -- the negative of what lies from -b to b does so too
 neg-in : (b x : Float) → In (neg b) b x → In (neg b) b (neg x)

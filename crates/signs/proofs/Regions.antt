@@ -15,15 +15,15 @@ use lib.Ieee.Fits.{down-pos, and-l, and-r}
 use lib.Ieee.Positive.{positive, above-of-le}
 use Rattle.rounding.proofs.Signed.{Signed, round-signed, le→Le}
 use Rattle.rounding.proofs.Fraction.{mul-is}
-use Rattle.words.specs.F64.{bits, _⊗_, _⊘_}
-use Rattle.tgamma.specs.Tgamma.{FACT}
+use Rattle.words.specs.F64.{_⊗_, _⊘_, 1·0}
+use Rattle.tgamma.specs.Tgamma.{FACT, x1p1023}
 use Rattle.tgamma.proofs.Regions.{from-54, to184, Course, tiny, factorial, overflown, vanished, lanczos}
 use Rattle.tgamma.proofs.Zeros.{vanished-even, vanished-odd}
 use Rattle.signs.proofs.Positive.{lanczos-sign}
 use Rattle.signs.proofs.Negative.{reflected-even, reflected-odd}
 
 -- 1 / x has the sign of x
-reciprocal : (s : Bool) (m : ℕ) (e : ℤ) → Signed s (bits 0x3FF0000000000000 ⊘ fin s m e)
+reciprocal : (s : Bool) (m : ℕ) (e : ℤ) → Signed s (1·0 ⊘ fin s m e)
 unfolding div ofBits
 reciprocal s m e = go s (eqb m 0) (1 * down e) (m * up e * 1)
   where
@@ -62,7 +62,7 @@ unfolding all-positive ofBits
 fact-positive = tt
 
 -- from 184 on: x * 2 ^ 1023
-far-sign : (m : ℕ) (e : ℤ) → Signed false (fin false m e ⊗ bits 0x7FE0000000000000)
+far-sign : (m : ℕ) (e : ℤ) → Signed false (fin false m e ⊗ x1p1023)
 unfolding ofBits
 far-sign m e = rw (mul-is binary64 false m e false 1 (pos 1023)) (round-signed binary64 false _ _)
 

@@ -8,12 +8,12 @@ use lib.IntN.{pos, negsuc}
 use lib.Ieee.{Float, nan, inf, fin, binary64, up, down, toBits, ofBits, eq, le, lt, fits}
 use lib.Ieee.Fits.{down-pos}
 use Rattle.rounding.proofs.Signed.{le→Le, Le→le}
-use Rattle.words.specs.F64.{bits}
 use Rattle.words.specs.Bits.{sizeWordS, signS}
 use Rattle.words.specs.Floor.{floorS}
 use Rattle.words.proofs.CutLaws.{from-word, sign-of}
 use Rattle.words.proofs.FloorValues.{floor-whole}
 use Rattle.words.proofs.WholeBounds.{Plus, whole-plus}
+use Rattle.tgamma.specs.Tgamma.{23·0}
 
 -- a whole number above zero is at least one
 pub one-le : (M D : ℕ) → 0 < M → M % D ≡ 0 → D ≤ M
@@ -24,7 +24,7 @@ one-le M D h z = go (M / D) refl
     go (suc k) q = let d : M / D * D ≡ k * D + D = rw q (suc-mul k D) in omega (arith, div-add-mod' M D)
 
 pub fact-index : (x : Float) → fits binary64 x ≡ true
-    → (eq x (floorS binary64 x) ≡ true) × (0x3C900000 ≤ sizeWordS x) × (signS binary64 x ≡ 1 → ⊥) × (le x (bits 0x4037000000000000) ≡ true)
+    → (eq x (floorS binary64 x) ≡ true) × (0x3C900000 ≤ sizeWordS x) × (signS binary64 x ≡ 1 → ⊥) × (le x 23·0 ≡ true)
     → Plus 1 23 x
 unfolding ofBits
 fact-index nan F h = absurd (unfold eq in true≢false (sym (h .0)))

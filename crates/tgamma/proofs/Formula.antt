@@ -13,7 +13,7 @@ use lib.Ieee.Fits.{up-pos}
 use borrow.Author.Tests.{lt-ltb}
 use Rattle.rounding.proofs.Range.{Expr, var, con, plus, times, over, eval}
 use Rattle.words.specs.Pick.{pick}
-use Rattle.words.specs.F64.{bits, _⊕_, _⊖_, _⊗_, _⊘_}
+use Rattle.words.specs.F64.{bits, _⊕_, _⊖_, _⊗_, _⊘_, 0·5, 8·0}
 use Rattle.exp.specs.Exp.{expS}
 use Rattle.pow.specs.Pow.{powS}
 use Rattle.sinpi.specs.Sinpi.{sinpiS}
@@ -27,7 +27,7 @@ abbrev pub yOf : Float → Float
 yOf x = x ⊕ GMHALF
 
 abbrev pub zOf : Float → Float
-zOf x = x ⊖ bits 0x3FE0000000000000
+zOf x = x ⊖ 0·5
 
 abbrev pub rOf : Float → Float
 rOf x = sS x ⊗ expS (neg (yOf x))
@@ -56,7 +56,7 @@ lanczos-minus m e h = rw (below-zero m e h, turned) refl
     turned = unfold neg in refl
 
 -- ---- its lines
-pub last-is : (y dy z r : Float) → let c = dy ⊗ (GMHALF ⊕ bits 0x3FE0000000000000) in let p = powS y (bits 0x3FE0000000000000 ⊗ z) in
+pub last-is : (y dy z r : Float) → let c = dy ⊗ (GMHALF ⊕ 0·5) in let p = powS y (0·5 ⊗ z) in
     lastS y dy z r ≡ (r ⊕ c ⊗ r ⊘ y) ⊗ p ⊗ p
 unfolding lastS
 last-is y dy z r = refl
@@ -97,10 +97,10 @@ lowE = over (downE SNUM) (downE SDEN)
 abbrev pub highE : Expr
 highE = over (upE (con (bits 0)) SNUM) (upE (con (bits 0)) SDEN)
 
-pub s-low : (x : Float) → lt x (bits 0x4020000000000000) ≡ true → eval binary64 (x ∷ []) lowE ≡ sS x
+pub s-low : (x : Float) → lt x 8·0 ≡ true → eval binary64 (x ∷ []) lowE ≡ sS x
 unfolding eval sS
 s-low x h = rw (h, down-is SNUM x, down-is SDEN x) refl
 
-pub s-high : (x : Float) → lt x (bits 0x4020000000000000) ≡ false → eval binary64 (x ∷ []) highE ≡ sS x
+pub s-high : (x : Float) → lt x 8·0 ≡ false → eval binary64 (x ∷ []) highE ≡ sS x
 unfolding eval sS
 s-high x h = rw (h, up-is (con (bits 0)) SNUM x, up-is (con (bits 0)) SDEN x) refl

@@ -12,13 +12,13 @@ use lib.Ieee.Bits.{is-true}
 use lib.Ieee.Positive.{above-of-le}
 use borrow.Author.Tests.{lt-leb, ltb-true, ltb-false, leb-true, leb-false}
 use Rattle.rounding.proofs.Range.{In}
-use Rattle.words.specs.F64.{bits, _⊗_, _⊘_}
+use Rattle.words.specs.F64.{_⊗_, _⊘_, 1·0}
 use Rattle.words.specs.Bits.{sizeWordS}
 use Rattle.words.specs.Floor.{floorS}
 use Rattle.words.proofs.CutLaws.{word-under, from-word, upto-word, sign-of}
 use Rattle.words.proofs.FloorValues.{floor-differs}
 use Rattle.words.proofs.WholeBounds.{Plus}
-use Rattle.tgamma.specs.Tgamma.{FACT, tgammaS, integerS, generalS, vanishedS, lanczosS}
+use Rattle.tgamma.specs.Tgamma.{FACT, tgammaS, integerS, generalS, vanishedS, lanczosS, x1p1023, 23·0}
 use Rattle.tgamma.proofs.FactIndex.{fact-index}
 
 -- 2 ^ -54 and 184
@@ -35,11 +35,11 @@ Middle x = In from-54 to184 x
 -- what the answer is, for x = ±(m * 2 ^ e), with a minus sign where s is true
 pub data Course (s : Bool) (m : ℕ) (e : ℤ) : Float → Type 0 where
   -- up to 2 ^ -54 in size, the zeros among them
-  tiny : T (le (fin false m e) from-54) → Course s m e (bits 0x3FF0000000000000 ⊘ fin s m e)
+  tiny : T (le (fin false m e) from-54) → Course s m e (1·0 ⊘ fin s m e)
   -- a whole number q from 1 to 23
   factorial : s ≡ false → (q : ℕ) → 1 ≤ q → q ≤ 23 → Course s m e (getD FACT (q - 1) nan)
   -- from 184 on in size
-  overflown : s ≡ false → Course s m e (fin s m e ⊗ bits 0x7FE0000000000000)
+  overflown : s ≡ false → Course s m e (fin s m e ⊗ x1p1023)
   vanished : s ≡ true → T (le to184 (fin false m e)) → Course s m e (vanishedS (fin s m e))
   -- between: the Lanczos formula
   lanczos : Middle (fin false m e) → Course s m e (lanczosS (fin s m e) (cond s 1 0))
@@ -67,7 +67,7 @@ general true m e F t false u = rw u (lanczos (from-tiny true m e F t, below184 t
 
 -- a whole number with no minus sign
 integer : (m : ℕ) (e : ℤ) → T (fits binary64 (fin false m e)) → ltb (sizeWordS (fin false m e)) 0x3C900000 ≡ false
-    → eq (fin false m e) (floorS binary64 (fin false m e)) ≡ true → (b : Bool) → le (fin false m e) (bits 0x4037000000000000) ≡ b
+    → eq (fin false m e) (floorS binary64 (fin false m e)) ≡ true → (b : Bool) → le (fin false m e) 23·0 ≡ b
     → Course false m e (integerS (fin false m e) (sizeWordS (fin false m e)) 0)
 unfolding integerS
 integer m e F t h true k =
