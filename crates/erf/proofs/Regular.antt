@@ -39,6 +39,12 @@ erfcEnd p x =
     let f = p .format in
     add f (mul f (p .2·0) (ofInt f (pos (signS f x)))) (div f (p .1·0) x)
 
+-- erf below 2 ^ -28
+abbrev pub erfTiny : Plan → Float → Float
+erfTiny p x =
+    let f = p .format in
+    mul f (p .0·125) (add f (mul f (p .8·0) x) (mul f (p .EFX8) x))
+
 pub record Regular (p : Plan) : Type 0 where
   -- ix is the pattern without the sign bit, and without so many low bits
   pub without : ℕ
@@ -62,7 +68,7 @@ pub record Regular (p : Plan) : Type 0 where
   -- a zero is below every cut; the formula there
   pub ix-zero : (s : Bool) → p .ix (fin s 0 (pos 0)) < p .at2^-28
   pub small-cuts : p .at2^-28 < p .at0·84375
-  pub at-zero : (s : Bool) → mul (p .format) (p .0·125) (add (p .format) (mul (p .format) (p .8·0) (fin s 0 (pos 0))) (mul (p .format) (p .EFX8) (fin s 0 (pos 0)))) ≡ fin s 0 (pos 0)
+  pub at-zero : (s : Bool) → erfTiny p (fin s 0 (pos 0)) ≡ fin s 0 (pos 0)
   -- from 28 on, and at the infinity
   pub far : sub (p .format) (p .2·0) (p .tiny) ≡ sub (p .format) (p .2·0) (mul (p .format) (p .tiny) (p .tiny))
   pub two-less-zero : sub (p .format) (p .2·0) zero+ ≡ p .2·0

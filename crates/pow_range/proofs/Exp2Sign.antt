@@ -75,7 +75,8 @@ within z n low high =
     let b = j * 0x100000000 + lowWordS z in
     let lo : lowWordS z < 0x100000000 = mod-lt (toBits binary64 z) (lit< tt) in
     let under : b < endless binary64 = omega arith in
-    (bitVal binary64 b, subst (λ (w : Float). HasValue w false (bitVal binary64 b) (2 ^ 1074)) (scaled-within z n j _ refl low (omega arith) refl) (bits-val binary64 b under))
+    let same = scaled-within z n j _ refl low (omega arith) refl in
+    (bitVal binary64 b, subst (λ (w : Float). HasValue w false (bitVal binary64 b) (2 ^ 1074)) same (bits-val binary64 b under))
 
 module _ (z : Float) (F : T (fits binary64 z)) (i : In quarter four z) (m : ℕ) (M : m ≤ 902) where
   scaled-up : (Y : ℕ) × HasValue (scaledS z (pos m)) false Y (2 ^ 1074)

@@ -22,7 +22,8 @@ use Rattle.rounding.proofs.Range.{In}
 -- ---- a range and a number of units
 
 -- a value of at most c = k in size is ±X units
-pub in-units : (x c : Float) (k : ℕ) → HasValue c false k 1 → T (fits binary64 x) → In (neg c) c x → (s : Bool) × (X : ℕ) × HasValue x s X (2 ^ 1074) × (X ≤ k * 2 ^ 1074)
+pub in-units : (x c : Float) (k : ℕ) → HasValue c false k 1 → T (fits binary64 x) → In (neg c) c x
+    → (s : Bool) × (X : ℕ) × HasValue x s X (2 ^ 1074) × (X ≤ k * 2 ^ 1074)
 in-units x c k v F i = go x F i (between-finite (neg c) x c (neg-finite c (value-finite c false k 1 v)) (value-finite c false k 1 v) (i .0) (i .1))
   where
     upper : (A k L : ℕ) → A * 1 + 0 * L ≤ k * L + 0 * 1 → A ≤ k * L

@@ -77,7 +77,8 @@ minus-case m e F n zero l d = record {
   only = λ k. refl;
 }
   where
-    even : (m : ℕ) → T (fits binary64 (fin true m e)) → (0 < m → m * up e % down e ≡ 0 → ⊥) → m * up e / down e % 2 ≡ 0 → lgammaS (fin true m e) .sign ≡ code true
+    even : (m : ℕ) → T (fits binary64 (fin true m e)) → (0 < m → m * up e % down e ≡ 0 → ⊥) → m * up e / down e % 2 ≡ 0
+        → lgammaS (fin true m e) .sign ≡ code true
     even zero F n d = Log.minus-zero e F
     even (suc m) F n d = Log.minus-even (suc m) e F (n (zero-lt-suc m)) d
 minus-case m e F n (suc zero) l d = record {
@@ -91,7 +92,8 @@ minus-case m e F n (suc zero) l d = record {
     clash : (n : ℕ) → n ≡ 1 → n ≡ 0 → ⊥
     clash n h k = omega arith
 
-    odd : (m : ℕ) → T (fits binary64 (fin true m e)) → (0 < m → m * up e % down e ≡ 0 → ⊥) → m * up e / down e % 2 ≡ 1 → lgammaS (fin true m e) .sign ≡ code false
+    odd : (m : ℕ) → T (fits binary64 (fin true m e)) → (0 < m → m * up e % down e ≡ 0 → ⊥) → m * up e / down e % 2 ≡ 1
+        → lgammaS (fin true m e) .sign ≡ code false
     odd zero F n d = absurd (clash (0 * up e / down e % 2) d (simp (zero-mul, zero-div)))
     odd (suc m) F n d = Log.minus-odd (suc m) e F (zero-lt-suc m) (n (zero-lt-suc m)) d
 minus-case m e F n (suc (suc d)) l k = absurd (omega arith)

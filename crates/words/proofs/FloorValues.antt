@@ -83,7 +83,11 @@ module _ (f : Format) (x : Float) (s : Bool) (d w : ℕ) (W : 0 < w) (v : HasVal
 
 -- the value of the floor of an x with no minus sign
 pub floor-plus : (f : Format) (x : Float) (d w : ℕ) → 0 < w → HasValue x false d w → d / w < 2 ^ prec f → HasValue (floorS f x) false (d / w) 1
-floor-plus f x d w W v l = elim (eq-zero-or-pos (d % w)) [ inl z ↦ whole z | inr p ↦ floor-part f x false d w W v (λ z. lt-irrefl 0 (subst (λ (n : ℕ). 0 < n) z p)) l ]
+floor-plus f x d w W v l =
+    elim (eq-zero-or-pos (d % w)) [
+      | inl z ↦ whole z
+      | inr p ↦ floor-part f x false d w W v (λ z. lt-irrefl 0 (subst (λ (n : ℕ). 0 < n) z p)) l
+    ]
   where
     quotient : d % w ≡ 0 → d ≡ d / w * w
     quotient z = sym (div-add-mod' d w) ∙ ap (λ (n : ℕ). d / w * w + n) z ∙ add-zero (d / w * w)
@@ -94,7 +98,8 @@ floor-plus f x d w W v l = elim (eq-zero-or-pos (d % w)) [ inl z ↦ whole z | i
     whole : d % w ≡ 0 → HasValue (floorS f x) false (d / w) 1
     whole z =
         subst (λ (y : Float). HasValue y false (d / w) 1) (stays f x false d w W v z)
-        (value-shorter x false (d / w) 1 w W (subst (λ (n : ℕ). HasValue x false (d / w * w) n) one-times (subst (λ (n : ℕ). HasValue x false n w) (quotient z) v)))
+        (value-shorter x false (d / w) 1 w W
+        (subst (λ (n : ℕ). HasValue x false (d / w * w) n) one-times (subst (λ (n : ℕ). HasValue x false n w) (quotient z) v)))
 
 -- ---- the test x == floor(x), for x = ±(m * up e) / (down e)
 
