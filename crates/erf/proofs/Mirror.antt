@@ -16,12 +16,12 @@ use Rattle.rounding.proofs.Signed.{Signed, round-neg, round-signed}
 use Rattle.rounding.proofs.Odd.{neg-neg, mul-neg, mul-neg-right, mul-neg-both, add-odd}
 use Rattle.words.specs.Pick.{pick}
 use Rattle.words.specs.Bits.{signS}
-use Rattle.words.proofs.PatternLaws.{fits-any-sign}
+use Rattle.words.proofs.PatternLaws.{fits-any-sign, fabs-neg}
 use Rattle.words.proofs.CutLaws.{sign-of}
 use Rattle.poly.specs.Horner.{hornerS}
 use Rattle.erf.specs.Plan.{Plan}
 use Rattle.erf.specs.Plan as Plan
-use Rattle.erf.proofs.SignBit.{fabs-neg}
+use Rattle.erf.proofs.AnnexF.{annex-f}
 use Rattle.erf.proofs.Regular.{Regular, valueAt, ix-neg, ix-finite, from-cut, small-plus}
 
 -- ---- a sum of two values with no minus sign turns with both
@@ -114,12 +114,15 @@ module _ (p : Plan) where
   turn : (x y : Float) → x ≡ neg y → y ≡ neg x
   turn x y h = sym (ap neg h ∙ neg-neg y)
 
+  inf-odd : Regular p → Plan.erfS p (inf true) ≡ neg (Plan.erfS p (inf false))
+  inf-odd r = let a = annex-f p r in a .erf-minus-inf ∙ sym (ap neg (a .erf-inf))
+
   -- erf(-x) is -erf(x)
   pub erf-odd : Regular p → (x : Float) → T (fits f x) → Plan.erfS p (neg x) ≡ neg (Plan.erfS p x)
   unfolding neg
-  erf-odd r nan F = r .erf-nan ∙ sym (ap neg (r .erf-nan))
-  erf-odd r (inf false) F = r .erf-inf
-  erf-odd r (inf true) F = turn (Plan.erfS p (inf true)) (Plan.erfS p (inf false)) (r .erf-inf)
+  erf-odd r nan F = let a = annex-f p r in a .erf-nan ∙ sym (ap neg (a .erf-nan))
+  erf-odd r (inf false) F = inf-odd r
+  erf-odd r (inf true) F = turn (Plan.erfS p (inf true)) (Plan.erfS p (inf false)) (inf-odd r)
   erf-odd r (fin false m e) F = plus-odd r m e F
   erf-odd r (fin true m e) F =
       turn (Plan.erfS p (fin true m e)) (Plan.erfS p (fin false m e)) (plus-odd r m e (fits-any-sign f true false m e F))
@@ -146,6 +149,6 @@ module _ (p : Plan) where
           → Plan.erfcS p (neg x) ≡ sub f (p .2·0) (Plan.erfcS p x)
       go nan F h a = absurd a
       go (inf true) F h a = absurd a
-      go (inf false) F h a = r .erfc-inf
+      go (inf false) F h a = let v = annex-f p r in v .erfc-minus-inf ∙ sym (ap (sub f (p .2·0)) (v .erfc-inf) ∙ r .two-less-zero)
       go (fin true m e) F h a = absurd a
       go (fin false m e) F h a = plus-mirror r m e F (from-cut p r m e F h)

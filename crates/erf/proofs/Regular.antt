@@ -1,4 +1,4 @@
--- What the laws of erf and erfc at -x ask of a plan: `Regular`. Its fields are tests and equations that the checker works out.
+-- What the laws of erf and erfc at -x and at the special values ask of a plan: `Regular`. Its fields are tests and equations that the checker works out.
 -- What follows, for a finite x with no minus sign and its word ix:
 --   `ix-neg`: ix does not see the sign; `ix-finite`: it is below the infinity's;
 --   `from-cut`: where x is from a cut's value on, ix is from the cut on;
@@ -8,25 +8,42 @@ use mathlib.Core.Path.{_≡_, sym, ap, _∙_, subst}
 use mathlib.Core.List.{[]}
 use Prim.Native.Nat.{ℕ, _*_, _/_, _%_, _^_, _≤_, _<_}
 use native.Mathlib.Nat.{le-of-lt, le-div-iff-mul-le, div-lt-iff-lt-mul, mul-lt-mul-of-pos-right}
-use mathlib.Core.Bool.{true, false}
-use lib.IntN.{ℤ}
+use mathlib.Core.Bool.{Bool, true, false}
+use lib.IntN.{ℤ, pos}
 use lib.Dec.{T}
 use lib.Pow.{pow-pos}
-use lib.Ieee.{Float, nan, inf, fin, Format, top, add, sub, mul, neg, le, ofBits, toBits, fits}
+use lib.Ieee.{Float, nan, inf, fin, Format, top, add, sub, mul, div, neg, le, ofInt, ofBits, toBits, fits}
 use lib.Ieee.Positive.{positive, between}
-use Rattle.rounding.proofs.BitOrder.{endless, toBits-under}
+use Rattle.rounding.proofs.BitOrder.{endless}
 use Rattle.rounding.proofs.Range.{In, halvedTest, halved}
-use Rattle.words.specs.Fabs.{fabsS}
-use Rattle.words.proofs.PatternLaws.{unsigned-rest}
-use Rattle.words.proofs.CutLaws.{bits-from, from-bits, upto-bits}
+use Rattle.rounding.proofs.Relative.{zero+}
+use Rattle.words.specs.Bits.{signS}
+use Rattle.words.proofs.PatternLaws.{rest-neg}
+use Rattle.words.proofs.CutLaws.{size-under, bits-from, from-bits, upto-bits}
 use Rattle.erf.specs.Plan.{Plan}
 use Rattle.erf.specs.Plan as Plan
-use Rattle.erf.proofs.SignBit.{rest-neg}
 use Rattle.erf.proofs.SmallSum.{sumE, sum-is}
 
 -- the value at a cut, where ix is without the pattern's k low bits
 abbrev pub valueAt : Plan → ℕ → ℕ → Float
 valueAt p k w = ofBits (p .format) (w * 2 ^ k)
+
+-- erf and erfc of what is not finite
+abbrev pub erfEnd : Plan → Float → Float
+erfEnd p x =
+    let f = p .format in
+    add f (sub f (p .1·0) (mul f (p .2·0) (ofInt f (pos (signS f x))))) (div f (p .1·0) x)
+
+abbrev pub erfcEnd : Plan → Float → Float
+erfcEnd p x =
+    let f = p .format in
+    add f (mul f (p .2·0) (ofInt f (pos (signS f x)))) (div f (p .1·0) x)
+
+-- erf below 2 ^ -28
+abbrev pub erfTiny : Plan → Float → Float
+erfTiny p x =
+    let f = p .format in
+    mul f (p .0·125) (add f (mul f (p .8·0) x) (mul f (p .EFX8) x))
 
 pub record Regular (p : Plan) : Type 0 where
   -- ix is the pattern without the sign bit, and without so many low bits
@@ -43,12 +60,18 @@ pub record Regular (p : Plan) : Type 0 where
   pub cut-plus : T (positive (valueAt p without (p .at0·84375)))
   -- from 2 ^ -28 to 0.84375 erf lies from tiny to 1: the terms of its sum do not cancel
   pub small-test : T (halvedTest 4 (p .format) (p .tiny) (p .1·0) (sumE p) [] (valueAt p without (p .at2^-28)) (valueAt p without (p .at0·84375)))
-  -- what is not finite
-  pub erf-nan : Plan.erfS p nan ≡ nan
-  pub erf-inf : Plan.erfS p (inf true) ≡ neg (Plan.erfS p (inf false))
-  pub erfc-inf : Plan.erfcS p (inf true) ≡ sub (p .format) (p .2·0) (Plan.erfcS p (inf false))
-  -- from 28 on
+  -- what is not finite has its ix from the infinity's on; the formulas there
+  pub ix-nan : p .notFinite ≤ p .ix nan
+  pub ix-inf : (s : Bool) → p .notFinite ≤ p .ix (inf s)
+  pub erf-ends : (erfEnd p nan ≡ nan) × (erfEnd p (inf false) ≡ p .1·0) × (erfEnd p (inf true) ≡ neg (p .1·0))
+  pub erfc-ends : (erfcEnd p nan ≡ nan) × (erfcEnd p (inf false) ≡ zero+) × (erfcEnd p (inf true) ≡ p .2·0)
+  -- a zero is below every cut; the formula there
+  pub ix-zero : (s : Bool) → p .ix (fin s 0 (pos 0)) < p .at2^-28
+  pub small-cuts : p .at2^-28 < p .at0·84375
+  pub at-zero : (s : Bool) → erfTiny p (fin s 0 (pos 0)) ≡ fin s 0 (pos 0)
+  -- from 28 on, and at the infinity
   pub far : sub (p .format) (p .2·0) (p .tiny) ≡ sub (p .format) (p .2·0) (mul (p .format) (p .tiny) (p .tiny))
+  pub two-less-zero : sub (p .format) (p .2·0) zero+ ≡ p .2·0
 
 module _ (p : Plan) (r : Regular p) where
   abbrev f : Format
@@ -74,19 +97,15 @@ module _ (p : Plan) (r : Regular p) where
     x = fin false m e
 
     pub ix-finite : p .ix x < p .notFinite
-    ix-finite =
-        rw (r .ix-is x)
-        (div-lt-iff-lt-mul unit-pos .1 (rw (r .infinity-is, unsigned-rest f false m e F) (toBits-under f m e F)))
+    ix-finite = rw (r .ix-is x) (div-lt-iff-lt-mul unit-pos .1 (rw (r .infinity-is) (size-under f false m e F)))
 
     pub from-cut : T (le (at (p .at0·84375)) x) → p .at0·84375 ≤ p .ix x
-    unfolding fabsS
-    from-cut h = rw (r .ix-is x) (le-div-iff-mul-le unit-pos .1 (bits-from f x F tt (p .at0·84375 * unit) cut-inside h))
+    from-cut h = rw (r .ix-is x) (le-div-iff-mul-le unit-pos .1 (bits-from f false m e F (p .at0·84375 * unit) cut-inside h))
 
     small-in : p .at2^-28 ≤ p .ix x → p .ix x < p .at0·84375 → In (at (p .at2^-28)) (at (p .at0·84375)) x
-    unfolding fabsS
     small-in lo hi = (
-      from-bits f x F tt (p .at2^-28 * unit) (le-div-iff-mul-le unit-pos .0 (rw (r .ix-is x) at lo)),
-      upto-bits f x F tt (p .at0·84375 * unit) cut-inside (le-of-lt (div-lt-iff-lt-mul unit-pos .0 (rw (r .ix-is x) at hi))),
+      from-bits f false m e F (p .at2^-28 * unit) (le-div-iff-mul-le unit-pos .0 (rw (r .ix-is x) at lo)),
+      upto-bits f false m e F (p .at0·84375 * unit) cut-inside (le-of-lt (div-lt-iff-lt-mul unit-pos .0 (rw (r .ix-is x) at hi))),
     )
 
     pub small-plus : p .at2^-28 ≤ p .ix x → p .ix x < p .at0·84375 → T (positive (add f x (mul f x (Plan.smallS p x))))

@@ -1,23 +1,11 @@
 -- erf from 2 ^ -28 to 0.84375, the sum x + x * y, as an expression over the plan, so that intervals bound it. Assumes nothing.
-use mathlib.Core.Path.{_≡_, refl, ap}
-use mathlib.Core.List.{List, [], _∷_}
-use lib.Ieee.{Float, Format, add, mul, ofBits}
-use Rattle.rounding.proofs.Range.{Expr, var, con, plus, times, over, share, eval}
-use Rattle.poly.specs.Horner.{hornerS}
+use mathlib.Core.Path.{_≡_, refl}
+use mathlib.Core.List.{[], _∷_}
+use lib.Ieee.{Float, add, mul}
+use Rattle.rounding.proofs.Range.{Expr, var, plus, times, over, share, eval}
+use Rattle.poly.proofs.HornerExpr.{hornerE, horner-is}
 use Rattle.erf.specs.Plan.{Plan}
 use Rattle.erf.specs.Plan as Plan
-
--- Horner's rule
-unfoldable pub hornerE : Format → List Float → Expr → Expr
-hornerE f [] z = con (ofBits f 0)
-hornerE f (c ∷ []) z = con c
-hornerE f (c ∷ (d ∷ cs)) z = plus (con c) (times z (hornerE f (d ∷ cs) z))
-
-horner-is : (f : Format) (c : List Float) (z : Expr) (ρ : List Float) → eval f ρ (hornerE f c z) ≡ hornerS f c (eval f ρ z)
-unfolding hornerE hornerS eval
-horner-is f [] z ρ = refl
-horner-is f (c ∷ []) z ρ = refl
-horner-is f (c ∷ (d ∷ cs)) z ρ = ap (λ (v : Float). add f c (mul f (eval f ρ z) v)) (horner-is f (d ∷ cs) z ρ)
 
 -- x + x * y, in the variable x
 abbrev pub sumE : Plan → Expr

@@ -1,17 +1,20 @@
 -- The laws of erff and erfcf:
+--   `erff-special`: the special values of Annex F;
 --   `erff-odd`: erff(-x) is -erff(x), for every x (a NaN has no sign);
 --   `erfcf-mirror`: erfcf(-x) is 2 - erfcf(x), for an x from 0.84375 on, the infinity included.
 -- Assumes nothing.
 use mathlib.Core.Path.{_≡_, refl}
 use mathlib.Core.List.{[]}
 use native.Mathlib.Omega.{arith}
-use lib.Dec.{T}
+use mathlib.Core.Bool.{true, false}
+use lib.Dec.{T, lit<, lit≤}
 use lib.Ieee.{Float, binary32, add, sub, mul, div, neg, le, ofInt, ofBits, toBits, fits}
 use Rattle.rounding.proofs.Range.{ieval, halvedTest}
 use Rattle.words.specs.F32.{_⊖_, bits}
-use Rattle.erf.specs.Plan as Plan
-use Rattle.erf.proofs.SmallSum.{hornerE, sumE}
+use Rattle.poly.proofs.HornerExpr.{hornerE}
+use Rattle.erf.proofs.SmallSum.{sumE}
 use Rattle.erf.proofs.Regular.{Regular}
+use Rattle.erf.proofs.AnnexF.{AnnexF, annex-f}
 use Rattle.erf.proofs.Mirror as Mirror
 use Rattle.erff.specs.Erff.{erf32, erffS, erfcfS}
 
@@ -22,7 +25,7 @@ small-test = tt
 
 -- the plan of f32
 regular : Regular erf32
-unfolding Plan.erfS Plan.erfcS add sub mul div neg ofInt ofBits toBits
+unfolding add sub mul div neg ofInt ofBits toBits
 regular = record {
   without = 0;
   ix-is = λ x. omega arith;
@@ -34,11 +37,20 @@ regular = record {
   one-plus = tt;
   cut-plus = tt;
   small-test = small-test;
-  erf-nan = refl;
-  erf-inf = refl;
-  erfc-inf = refl;
+  ix-nan = lit≤ tt;
+  ix-inf = λ s. elim s [ true ↦ lit≤ tt | false ↦ lit≤ tt ];
+  erf-ends = (refl, refl, refl);
+  erfc-ends = (refl, refl, refl);
+  ix-zero = λ s. elim s [ true ↦ lit< tt | false ↦ lit< tt ];
+  small-cuts = omega arith;
+  at-zero = λ s. elim s [ true ↦ refl | false ↦ refl ];
   far = refl;
+  two-less-zero = refl;
 }
+
+-- the special values
+pub erff-special : AnnexF erf32
+erff-special = annex-f erf32 regular
 
 -- erff(-x) has the bits of -erff(x)
 pub erff-odd : (x : Float) → T (fits binary32 x) → erffS (neg x) ≡ neg (erffS x)

@@ -1,5 +1,2 @@
--- The laws of erff and erfcf, in reading order.
--- AnnexF: the special values
-pub mod AnnexF
--- Laws32: erff and erfcf at -x
+-- Laws32: erff and erfcf at -x, and their special values
 pub mod Laws32

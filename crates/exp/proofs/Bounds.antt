@@ -14,7 +14,6 @@ use Rattle.rounding.proofs.Signed.{le→Le, le-neg}
 use Rattle.rounding.proofs.Order.{between-finite}
 use Rattle.rounding.proofs.Range.{Expr, var, con, plus, times, eval, ieval, In, rangeTest, range}
 use Rattle.words.specs.Bits.{sizeWordS}
-use Rattle.words.specs.Fabs.{fabsS}
 use Rattle.words.specs.Whole.{wholeS}
 use Rattle.words.proofs.CutLaws.{word-from, word-upto, sign-of}
 use Rattle.words.proofs.WholeBounds.{number, Minus, whole-minus}
@@ -33,10 +32,10 @@ to55 = fin true 11 (negsuc 0)
 -- the size word lies between those of 5.5 and 190
 word-in : (m : ℕ) (e : ℤ) → T (fits binary64 (fin true m e)) → In from190 to55 (fin true m e)
     → (0x40160000 ≤ sizeWordS (fin true m e)) × (sizeWordS (fin true m e) ≤ 0x4067C000)
-unfolding fabsS ofBits neg
+unfolding ofBits neg
 word-in m e F i =
     let x = fin true m e in
-    (word-from x F tt 0x4016000000000000 (lit< tt) (le-neg x to55 (i .1)), word-upto x F tt 0x4067C00000000000 (lit< tt) (le-neg from190 x (i .0)))
+    (word-from true m e F 0x4016000000000000 (lit< tt) (le-neg x to55 (i .1)), word-upto true m e F 0x4067C00000000000 (lit< tt) (le-neg from190 x (i .0)))
 
 -- from a size of 1.5 ln 2 on, k is the quotient's whole part
 branch : (x : Float) (hx : ℕ) → 0x40160000 ≤ hx → plainS exp64 x hx 1 ≡ reducedS exp64 x (wholeS (quotient x))

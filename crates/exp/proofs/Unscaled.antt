@@ -1,5 +1,5 @@
 -- The answer before it is scaled, for an argument hi - lo in the primary range, lies from 1/4 to 4 (`unscaled-range`). Assumes nothing.
-use mathlib.Core.Path.{_≡_, refl, subst}
+use mathlib.Core.Path.{_≡_, ap, subst}
 use mathlib.Core.List.{[], _∷_}
 use mathlib.Core.Bool.{true, false}
 use lib.IntN.{pos, negsuc}
@@ -9,6 +9,7 @@ use Rattle.rounding.proofs.Interval.{some}
 use Rattle.rounding.proofs.Range.{Expr, var, con, plus, minus, times, over, share, eval, ieval, In, rangeTest, range}
 use Rattle.words.specs.F64.{_⊖_, _⊗_, bits}
 use Rattle.poly.specs.Horner.{hornerS}
+use Rattle.poly.proofs.HornerExpr.{hornerE, horner-is}
 use Rattle.exp.specs.Exp.{exp64}
 use Rattle.exp.proofs.ExpCode.{yOf}
 
@@ -40,30 +41,21 @@ abbrev pub four : Float
 four = fin false 1 (pos 2)
 
 -- the same as data: hi is variable 0 and lo variable 1
-step : Float → Expr → Expr
-step c e = plus (con c) (times (var 0) e)
-
 unscaledE : Expr
 unscaledE =
     share (minus (var 0) (var 1))
     (share (times (var 0) (var 0))
     (share
-    (minus (var 1)
-    (times (var 0)
-    (step (bits 0x3FC555555555553E)
-    (step (bits 0xBF66C16C16BEBD93)
-    (step (bits 0x3F11566AAF25DE2C)
-    (step (bits 0xBEBBBD41C5D26BF1)
-    (con (bits 0x3E66376972BEA4D0))))))))
+    (minus (var 1) (times (var 0) (hornerE binary64 (exp64 .P) (var 0))))
     (plus (con (bits 0x3FF0000000000000))
     (plus (minus (over (times (var 2) (var 0)) (minus (con (bits 0x4000000000000000)) (var 0))) (var 4)) (var 3)))))
 
 unscaled-is : (hi lo : Float) → eval binary64 (hi ∷ lo ∷ []) unscaledE ≡ unscaled hi lo
-unfolding eval step unscaledE unscaled hornerS
-unscaled-is hi lo = refl
+unfolding eval unscaledE unscaled
+unscaled-is hi lo = ap (λ (R : Float). yOf exp64 R (hi ⊖ lo) hi lo) (horner-is binary64 (exp64 .P) (var 0) _)
 
 test : T (rangeTest binary64 quarter four unscaledE (some loMin loMax ∷ []) hiMin hiMax)
-unfolding ieval step unscaledE ofBits add sub mul div le
+unfolding ieval hornerE unscaledE ofBits add sub mul div le
 test = tt
 
 pub unscaled-range : (hi lo : Float) → In hiMin hiMax hi → In loMin loMax lo → In quarter four (unscaled hi lo)

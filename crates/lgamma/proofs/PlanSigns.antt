@@ -115,7 +115,7 @@ module _ (p : Plan) (r : Regular p) where
         go false t = ap (λ (a : Answer). a .sign) (reflected-is t) ∙ sign-odd p r (p .ix x) m e F' (from-least t) w d
 
     -- -1 at -0
-    minus-zero : m ≡ 0 → Plan.lgammaS p x .sign ≡ negsuc 0
+    pub minus-zero : m ≡ 0 → Plan.lgammaS p x .sign ≡ negsuc 0
     minus-zero z = go (ltb (p .ix x) (p .tiny)) refl
       where
         go : (b : Bool) → ltb (p .ix x) (p .tiny) ≡ b → Plan.lgammaS p x .sign ≡ negsuc 0

@@ -11,9 +11,10 @@ use lib.Ieee.{Float, nan, inf, fin, binary64, top, toBits, fits}
 use lib.Ieee.Bits.{ofBits-toBits}
 use lib.Ieee.Exact.{HasValue}
 use lib.Ieee.Fits.{add-fits}
-use Rattle.rounding.proofs.Signed.{P, N}
+use Rattle.rounding.proofs.Signed.{P, N, value-unique}
 use Rattle.rounding.proofs.Error.{NearSum}
-use Rattle.rounding.proofs.BitOrder.{bitVal, bits-val, toBits-under, toBits-neg, under-top}
+use Rattle.rounding.proofs.Sums.{sum-near, difference-near, size-of-sum, size-of-difference}
+use Rattle.rounding.proofs.BitOrder.{bitVal, val-le, bits-val, toBits-under, toBits-neg, under-top}
 use Rattle.rounding.proofs.Range.{In}
 use Rattle.words.specs.F64.{_⊕_, _⊖_}
 use Rattle.words.specs.Bits.{highWordS}
@@ -22,7 +23,7 @@ use Rattle.pow_exp.specs.Exp2.{fractionS}
 use Rattle.pow_exp.proofs.Half.{amount}
 use Rattle.pow_range.proofs.FractionRange.{quarter, four, fraction-range}
 use Rattle.pow_range.proofs.NValue.{last, slack, z-near, tOfWord, t-plus, t-minus}
-use Rattle.pow_range.proofs.Reduced.{unique, value-le, sum-near, difference-near, size-of-difference, small-parts}
+use Rattle.pow_range.proofs.Reduced.{small-parts}
 
 -- ---- the words of a value
 
@@ -44,7 +45,7 @@ size-bits (fin s m e) w Z F v =
     let vb = subst (λ (z : Float). HasValue z false (bitVal binary64 b) (2 ^ 1074)) (ofBits-toBits binary64 x F+) (bits-val binary64 b under) in (
       b,
       under-top binary64 b under,
-      unique x false false Z (bitVal binary64 b) (2 ^ 1074) (refl, v .1) vb,
+      value-unique x false false Z (bitVal binary64 b) (2 ^ 1074) (refl, v .1) vb,
       subst (λ (w : Bool). toBits binary64 (fin s m e) ≡ signed w b) (v .0) (go s),
     )
   where
@@ -70,14 +71,9 @@ module _ (t b : ℕ) (small : b < 0x8000000000000000) where
 
 -- a value below c's has a pattern below c
 pattern-lt : (b c : ℕ) → bitVal binary64 b < bitVal binary64 c → b < c
-pattern-lt b c h = lt-of-not-le (λ (k : c ≤ b). not-le-of-lt h (value-le b c k))
+pattern-lt b c h = lt-of-not-le (λ (k : c ≤ b). not-le-of-lt h (val-le binary64 c b k))
 
 -- ---- the linear part: L units are 1, E is twice the error of a sum
-
--- a sum is at most the sum of the sizes, and E / 2
-pub size-of-sum : (u : Bool) (G : ℕ) (s : Bool) (X : ℕ) (t : Bool) (Y E : ℕ) → NearSum u G s X t Y E → 2 * G ≤ 2 * (X + Y) + E
-size-of-sum u G s X false Y E h = size-of-difference u G s X true Y E h
-size-of-sum u G s X true Y E h = size-of-difference u G s X false Y E h
 
 -- z = p + h, z is within (L + D) / 2 of t, g = h - t, s = p + g: s is small
 reduced-small : (p p' h h' z z' t t' g g' s s' E D L : ℕ)
@@ -173,7 +169,7 @@ module _ (p·l p·h : Float) (s : Bool) (A : ℕ) (u : Bool) (B : ℕ) (vl : Has
         let L = 2 ^ 1074 in
         let d = word-digits (toBits binary64 (p·l ⊕ p·h)) b b-lt w z-is in
         let b-le : b ≤ 0x3FE0000100000000 = omega arith in
-        let Z-le : Z ≤ bitVal binary64 0x3FE0000100000000 = le-trans (le-of-eq Z-is) (value-le 0x3FE0000100000000 b b-le) in
+        let Z-le : Z ≤ bitVal binary64 0x3FE0000100000000 = le-trans (le-of-eq Z-is) (val-le binary64 b 0x3FE0000100000000 b-le) in
         let less : Z * 64 ≤ 33 * L = le-trans (mul-le-mul-right 64 Z-le) (le-of-lt (lit< tt)) in
         let m = small-parts p·l p·h s A u B w Z vl vh vz sum (two-thousand A B L small) less in
         fraction-range p·h p·l (m .0) (m .1)

@@ -1,16 +1,16 @@
 -- `exp2S` with the sign 1 is no NaN and carries no minus sign, for p_l and p_h of at most 900 in size together: `exp2-plus`. Assumes nothing.
-use Prim.Native.Nat.{ℕ, zero, suc, _+_, _-_, _*_, _/_, _%_, _^_, _≤_, _<_, zero-le}
-use mathlib.Core.Path.{_≡_, refl, sym, ap, subst}
+use Prim.Native.Nat.{ℕ, zero, suc, _+_, _-_, _*_, _%_, _^_, _≤_, _<_, zero-le}
+use mathlib.Core.Path.{_≡_, refl, sym, subst}
 use mathlib.Core.Bool.{Bool, true, false}
 use native.Mathlib.Omega.{arith}
 use native.Mathlib.Nat.{mod-lt}
 use lib.IntN.{ℤ, pos, negsuc, negℤ}
-use lib.Dec.{T, lit<, leb, ltb}
+use lib.Dec.{T, lit<, leb}
 use lib.Ieee.{Float, nan, inf, fin, binary64, up, down, toBits, ofBits, fits, le, mul}
 use lib.Ieee.Bits.{ofBits-toBits}
 use lib.Ieee.Exact.{HasValue}
-use lib.Ieee.Fits.{down-pos, sub-fits}
-use borrow.Author.Tests.{lt-leb, le-ltb, ltb-true, ltb-false}
+use lib.Ieee.Fits.{down-pos}
+use borrow.Author.Tests.{leb-true, leb-false}
 use Rattle.rounding.proofs.Signed.{Signed, signed-of-le, round-signed}
 use Rattle.rounding.proofs.BitOrder.{bitVal, endless, bits-val, le-bits, toBits-under}
 use Rattle.rounding.proofs.Order.{between-finite}
@@ -18,7 +18,10 @@ use Rattle.rounding.proofs.Range.{In}
 use Rattle.words.specs.F64.{_⊕_, _⊖_, _⊗_, bits}
 use Rattle.words.specs.Bits.{highWordS, lowWordS}
 use Rattle.pow_exp.specs.Exp2.{word, fractionS, scaledS, exp2S}
-use Rattle.pow_exp.proofs.Half.{half, field, amount, below-is}
+use Rattle.pow_exp.proofs.Half.{field, below, amount, below-is}
+use Rattle.pow_exp.proofs.Laws.{rounded-up, rounded-down, within as scaled-within}
+use Rattle.pow_exp.proofs.Courses.{exp2-near}
+use Rattle.pow_exp.proofs.FractionExpr.{fraction-fits}
 use Rattle.pow_range.proofs.FractionRange.{quarter, four}
 use Rattle.pow_range.proofs.NValue.{tOfWord}
 use Rattle.pow_range.proofs.Exp2Range.{word-high, word-under, far-range, near-range}
@@ -67,14 +70,13 @@ bits-in (fin s m e) F i =
 -- where j stays the high word of a finite number
 within : (z : Float) (n : ℤ) → 0x100000 ≤ (highWordS z + word n * 0x100000) % 0x100000000 → (highWordS z + word n * 0x100000) % 0x100000000 < 0x7FF00000
     → (Y : ℕ) × HasValue (scaledS z n) false Y (2 ^ 1074)
-unfolding scaledS
 within z n low high =
     let j = (highWordS z + word n * 0x100000) % 0x100000000 in
     let b = j * 0x100000000 + lowWordS z in
     let lo : lowWordS z < 0x100000000 = mod-lt (toBits binary64 z) (lit< tt) in
     let under : b < endless binary64 = omega arith in
-    let j-lt : j < 0x80000000 = omega arith in
-    (bitVal binary64 b, simp (le-ltb j 0x100000 low, lt-leb 0x80000000 j j-lt) (bits-val binary64 b under))
+    let same = scaled-within z n j _ refl low (omega arith) refl in
+    (bitVal binary64 b, subst (λ (w : Float). HasValue w false (bitVal binary64 b) (2 ^ 1074)) same (bits-val binary64 b under))
 
 module _ (z : Float) (F : T (fits binary64 z)) (i : In quarter four z) (m : ℕ) (M : m ≤ 902) where
   scaled-up : (Y : ℕ) × HasValue (scaledS z (pos m)) false Y (2 ^ 1074)
@@ -113,10 +115,6 @@ one-value : HasValue one false (2 ^ 1074) (2 ^ 1074)
 unfolding ofBits
 one-value = (refl, refl)
 
-fraction-fits : (p·h p·l : Float) → T (fits binary64 (fractionS p·h p·l))
-unfolding fractionS
-fraction-fits p·h p·l = sub-fits binary64 _ _
-
 -- a scaled value, times 1
 times-one : (z : Float) (n : ℤ) → (Y : ℕ) × HasValue (scaledS z n) false Y (2 ^ 1074) → Signed false (one ⊗ scaledS z n)
 times-one z n y = mul-plus one (scaledS z n) (2 ^ 1074) (y .0) one-value (y .1)
@@ -126,35 +124,44 @@ module _ (p·l p·h : Float) (s : Bool) (A : ℕ) (u : Bool) (B : ℕ) (vl : Has
   abbrev j : ℕ
   j = highWordS (p·l ⊕ p·h)
 
-  near-plus : ltb 0x3FE00000 (j % 0x80000000) ≡ false → Signed false (exp2S one p·h p·l j)
-  unfolding exp2S
+  near-plus : leb (j % 0x80000000) 0x3FE00000 ≡ true → Signed false (exp2S one p·h p·l j)
   near-plus e =
-      let i = near-range p·l p·h s A u B vl vh small (ltb-false 0x3FE00000 (j % 0x80000000) e) in
-      simp e (times-one (fractionS p·h p·l) (pos 0) (scaled-up (fractionS p·h p·l) (fraction-fits p·h p·l) i 0 (zero-le)))
+      let h = leb-true (j % 0x80000000) 0x3FE00000 e in
+      let i = near-range p·l p·h s A u B vl vh small h in
+      rw (exp2-near one p·h p·l j h) (times-one (fractionS p·h p·l) (pos 0) (scaled-up (fractionS p·h p·l) (fraction-fits p·h p·l) i 0 (zero-le)))
 
-  -- n, as the definition has it
-  n-is : 0x3FE00000 < j % 0x80000000 → ((j + half j) % 2 ^ 20 + 2 ^ 20) / 2 ^ (20 - (field j - 0x3FF)) ≡ amount j
-  n-is low = ap (λ (d : ℕ). ((j + half j) % 2 ^ 20 + 2 ^ 20) / 2 ^ d) (sym (below-is j low up (word-under p·l p·h s A u B vl vh small)))
+  far-plus : leb (j % 0x80000000) 0x3FE00000 ≡ false → (t : Bool) → leb 0x80000000 j ≡ t → Signed false (exp2S one p·h p·l j)
+  far-plus e t f = go t f
     where
+      low : 0x3FE00000 < j % 0x80000000
+      low = leb-false (j % 0x80000000) 0x3FE00000 e
+
       up : j % 0x80000000 ≤ 0x4090CC00
       up = omega (arith, word-high p·l p·h s A u B vl vh small)
 
-  far-plus : ltb 0x3FE00000 (j % 0x80000000) ≡ true → (t : Bool) → leb 0x80000000 j ≡ t → Signed false (exp2S one p·h p·l j)
-  unfolding exp2S
-  far-plus e false f =
-      let low = ltb-true 0x3FE00000 (j % 0x80000000) e in
-      let r = far-range p·l p·h s A u B vl vh small low in
-      let z = fractionS (p·h ⊖ tOfWord j) p·l in
-      simp (e, f) (subst (λ (n : ℕ). Signed false (one ⊗ scaledS z (pos n))) (sym (n-is low)) (times-one z (pos (amount j)) (scaled-up z (fraction-fits (p·h ⊖ tOfWord j) p·l) (r .0) (amount j) (r .1))))
-  far-plus e true f =
-      let low = ltb-true 0x3FE00000 (j % 0x80000000) e in
-      let r = far-range p·l p·h s A u B vl vh small low in
-      let z = fractionS (p·h ⊖ tOfWord j) p·l in
-      simp (e, f) (subst (λ (n : ℕ). Signed false (one ⊗ scaledS z (negℤ (pos n)))) (sym (n-is low)) (times-one z (negℤ (pos (amount j))) (scaled-down z (fraction-fits (p·h ⊖ tOfWord j) p·l) (r .0) (amount j) (r .1))))
+      d-is : below j ≡ 20 - (field j - 0x3FF)
+      d-is = below-is j low up (word-under p·l p·h s A u B vl vh small)
+
+      z : Float
+      z = fractionS (p·h ⊖ tOfWord j) p·l
+
+      r : In quarter four z × (amount j ≤ 902)
+      r = far-range p·l p·h s A u B vl vh small low
+
+      F : T (fits binary64 z)
+      F = fraction-fits (p·h ⊖ tOfWord j) p·l
+
+      go : (t : Bool) → leb 0x80000000 j ≡ t → Signed false (exp2S one p·h p·l j)
+      go false f =
+          subst (Signed false) (rounded-up one p·h p·l j (below j) (tOfWord j) z _ low d-is refl refl (leb-false 0x80000000 j f) refl)
+          (times-one z (pos (amount j)) (scaled-up z F (r .0) (amount j) (r .1)))
+      go true f =
+          subst (Signed false) (rounded-down one p·h p·l j (below j) (tOfWord j) z _ low d-is refl refl (leb-true 0x80000000 j f) refl)
+          (times-one z (negℤ (pos (amount j))) (scaled-down z F (r .0) (amount j) (r .1)))
 
   pub exp2-plus : Signed false (exp2S one p·h p·l (highWordS (p·l ⊕ p·h)))
-  exp2-plus = go (ltb 0x3FE00000 (j % 0x80000000)) refl
+  exp2-plus = go (leb (j % 0x80000000) 0x3FE00000) refl
     where
-      go : (t : Bool) → ltb 0x3FE00000 (j % 0x80000000) ≡ t → Signed false (exp2S one p·h p·l (highWordS (p·l ⊕ p·h)))
-      go false e = near-plus e
-      go true e = far-plus e (leb 0x80000000 j) refl
+      go : (t : Bool) → leb (j % 0x80000000) 0x3FE00000 ≡ t → Signed false (exp2S one p·h p·l (highWordS (p·l ⊕ p·h)))
+      go true e = near-plus e
+      go false e = far-plus e (leb 0x80000000 j) refl

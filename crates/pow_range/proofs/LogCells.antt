@@ -12,58 +12,8 @@ use borrow.Author.Tests.{ltb-true, ltb-false}
 use Rattle.rounding.proofs.Signed.{value-finite}
 use Rattle.rounding.proofs.BitOrder.{bitVal, endless, bits-val, bits-le}
 use Rattle.rounding.proofs.Interval.{some}
-use Rattle.rounding.proofs.Range.{Expr, var, con, plus, minus, times, over, share, clear, eval, In, rangeTest, range}
+use Rattle.rounding.proofs.Range.{Expr, eval, In, rangeTest, range}
 use Rattle.words.specs.F64.{bits}
-use Rattle.poly.specs.Horner.{hornerS}
-use Rattle.pow_log.specs.Log2.{CP, CP·H, CP·L, seriesS}
-use Rattle.pow_range.proofs.ProductSign.{y1-is}
-
--- L1 to L6 at the variable 0
-abbrev polyE : Expr
-polyE =
-    plus (con (bits 0x3FE3333333333303)) (times (var 0)
-    (plus (con (bits 0x3FDB6DB6DB6FABFF)) (times (var 0)
-    (plus (con (bits 0x3FD55555518F264D)) (times (var 0)
-    (plus (con (bits 0x3FD17460A91D4101)) (times (var 0)
-    (plus (con (bits 0x3FCD864A93C9DB65)) (times (var 0) (con (bits 0x3FCA7E284A454EEF)))))))))))
-
--- `seriesS` as an expression in ax, t_h and t, up to t1, and then e: u, v, ss, s_h, t_l, s_l, s2, r, r, s2, t_h, t_l, u, v, p_h, p_l, z_h,
--- z_l and t1 are named in turn
-abbrev seriesE : Float → Float → Float → Expr → Expr
-seriesE bp dp·h dp·l e =
-    share (minus (var 0) (con bp))
-    (share (over (con (bits 0x3FF0000000000000)) (plus (var 1) (con bp)))
-    (share (times (var 1) (var 0))
-    (share (clear 32 (times (var 2) (var 1)))
-    (share (minus (var 4) (minus (var 5) (con bp)))
-    (share (times (var 3) (minus (minus (var 4) (times (var 1) (var 6))) (times (var 1) (var 0))))
-    (share (times (var 3) (var 3))
-    (share (times (times (var 0) (var 0)) polyE)
-    (share (plus (var 0) (times (var 2) (plus (var 4) (var 5))))
-    (share (times (var 5) (var 5))
-    (share (clear 32 (plus (plus (con (bits 0x4008000000000000)) (var 0)) (var 1)))
-    (share (minus (var 2) (minus (minus (var 0) (con (bits 0x4008000000000000))) (var 1)))
-    (share (times (var 8) (var 1))
-    (share (plus (times (var 7) (var 2)) (times (var 1) (var 10)))
-    (share (clear 32 (plus (var 1) (var 0)))
-    (share (minus (var 1) (minus (var 0) (var 2)))
-    (share (times (con CP·H) (var 1))
-    (share (plus (plus (times (con CP·L) (var 2)) (times (var 1) (con CP))) (con dp·l))
-    (share (clear 32 (plus (plus (plus (var 1) (var 0)) (con dp·h)) (var 20))) e))))))))))))))))))
-
-abbrev pub t1E : Float → Float → Float → Expr
-t1E bp dp·h dp·l = seriesE bp dp·h dp·l (var 0)
-
-abbrev pub t2E : Float → Float → Float → Expr
-t2E bp dp·h dp·l = seriesE bp dp·h dp·l (minus (var 1) (minus (minus (minus (var 0) (var 21)) (con dp·h)) (var 2)))
-
-pub t1-is : (ax bp t·h dp·h dp·l t : Float) → eval binary64 (ax ∷ t·h ∷ t ∷ []) (t1E bp dp·h dp·l) ≡ seriesS ax bp t·h dp·h dp·l t .t1
-unfolding eval seriesS hornerS
-t1-is ax bp t·h dp·h dp·l t = simp y1-is
-
-pub t2-is : (ax bp t·h dp·h dp·l t : Float) → eval binary64 (ax ∷ t·h ∷ t ∷ []) (t2E bp dp·h dp·l) ≡ seriesS ax bp t·h dp·h dp·l t .t2
-unfolding eval seriesS hornerS
-t2-is ax bp t·h dp·h dp·l t = simp y1-is
 
 -- ---- cells
 

@@ -15,7 +15,9 @@ use Rattle.rounding.proofs.Cut.{cut}
 use Rattle.rounding.proofs.Range.{ieval}
 use Rattle.pow_log.specs.Log2.{BP, DP·H, DP·L}
 use Rattle.pow_range.proofs.ProductSign.{one1, eight}
-use Rattle.pow_range.proofs.LogCells.{t1E, t2E, cells, both}
+use Rattle.poly.proofs.HornerExpr.{hornerE}
+use Rattle.pow_log.proofs.SeriesExpr.{t1E, t2E}
+use Rattle.pow_range.proofs.LogCells.{cells, both}
 
 abbrev pub number : ℕ → Float
 number n = ofInt binary64 (pos n)
@@ -59,27 +61,27 @@ unfolding every le ofInt
 plains = tt
 
 low-t1s : T (every low-t1 6 2)
-unfolding every cells ieval cut add sub mul div le neg fits ofBits toBits ofInt
+unfolding every cells ieval hornerE cut add sub mul div le neg fits ofBits toBits ofInt
 low-t1s = tt
 
 low-t2s : T (every low-t2 6 2)
-unfolding every cells ieval cut add sub mul div le neg fits ofBits toBits ofInt
+unfolding every cells ieval hornerE cut add sub mul div le neg fits ofBits toBits ofInt
 low-t2s = tt
 
 middle-t1s : T (every middle-t1 6 2)
-unfolding every cells ieval cut add sub mul div le neg fits ofBits toBits ofInt
+unfolding every cells ieval hornerE cut add sub mul div le neg fits ofBits toBits ofInt
 middle-t1s = tt
 
 middle-t2s : T (every middle-t2 6 2)
-unfolding every cells ieval cut add sub mul div le neg fits ofBits toBits ofInt
+unfolding every cells ieval hornerE cut add sub mul div le neg fits ofBits toBits ofInt
 middle-t2s = tt
 
 high-t1s : T (every high-t1 6 2)
-unfolding every cells ieval cut add sub mul div le neg fits ofBits toBits ofInt
+unfolding every cells ieval hornerE cut add sub mul div le neg fits ofBits toBits ofInt
 high-t1s = tt
 
 high-t2s : T (every high-t2 6 2)
-unfolding every cells ieval cut add sub mul div le neg fits ofBits toBits ofInt
+unfolding every cells ieval hornerE cut add sub mul div le neg fits ofBits toBits ofInt
 high-t2s = tt
 
 -- the tests of one n

@@ -4,16 +4,17 @@ use Prim.Native.Nat.{ℕ, suc, _+_, _-_, _*_, _/_, _%_, _^_, _≤_, _<_}
 use mathlib.Core.Bool.{true, false}
 use mathlib.Core.Path.{_≡_, refl, sym, ap, _∙_, subst}
 use native.Mathlib.Omega.{arith}
-use native.Mathlib.Nat.{mul-assoc, mul-comm, add-mul, add-zero, mod-lt, mul-add-div-right, div-mul-le-self, lt-of-le-of-lt, mul-le-mul-right, le-trans, le-of-eq}
+use native.Mathlib.Nat.{mul-assoc, mul-comm, add-mul, mod-lt, mul-add-div-right, div-mul-le-self, lt-of-le-of-lt, mul-le-mul-right, le-trans, le-of-eq}
 use lib.Pow.{pow-add, pow-pos, pow-mono}
 use lib.Dec.{lit<}
-use lib.Ieee.{Float, binary64, top, ofBits, toBits}
+use lib.Ieee.{Float, binary64, top, ofBits}
 use lib.Ieee.Exact.{HasValue}
 use Rattle.rounding.proofs.Signed.{value-neg}
 use Rattle.rounding.proofs.BitOrder.{scaled, bitVal, endless, bits-val, bits-neg, under-top}
 use Rattle.words.specs.F64.{bits}
 use Rattle.words.specs.Bits.{withHighWordS}
-use Rattle.pow_exp.proofs.Half.{half, field, below, amount, half-le, field-ge, field-le, below-is}
+use Rattle.words.proofs.PatternLaws.{high-alone}
+use Rattle.pow_exp.proofs.Half.{half, field, below, amount, half-le, field-ge, field-le}
 use Rattle.pow_range.proofs.NearZ.{exponent, double, half-power, n-near, value-near}
 
 -- the value of a pattern that is not subnormal
@@ -99,16 +100,9 @@ count-value X r d s h p k =
     ∙ mul-assoc n (2 ^ d) (0x100000000 * 2 ^ (X - 1))
     ∙ ap (λ (m : ℕ). n * m) unit
 
--- t, as the definition has it, of the high word j
+-- t of the high word j: the digits below the unit of n are cut off
 abbrev pub tOfWord : ℕ → Float
-tOfWord j =
-    let n = j + half j in
-    let k = n % 2 ^ 31 / 2 ^ 20 - 0x3FF in
-    withHighWordS (bits 0) (n / 2 ^ (20 - k) * 2 ^ (20 - k))
-
-pub no-low-word : (hi : ℕ) → withHighWordS (bits 0) hi ≡ ofBits binary64 (hi * 0x100000000)
-unfolding toBits ofBits
-no-low-word hi = ap (ofBits binary64) (add-zero (hi * 0x100000000))
+tOfWord j = withHighWordS (bits 0) ((j + half j) / 2 ^ below j * 2 ^ below j)
 
 -- the size of t: its pattern, and that it is n
 pattern : ℕ → ℕ
@@ -140,8 +134,7 @@ module _ (j : ℕ) (low : 0x3FE00000 < j % 0x80000000) (high : j % 0x80000000 �
   cut-word : (X : ℕ) → j + half j ≡ X * 0x100000 + (j + half j) % 0x100000
       → tOfWord j ≡ ofBits binary64 ((X * 0x100000 + (j + half j) % 0x100000 / 2 ^ below j * 2 ^ below j) * 0x100000000)
   cut-word X e =
-      ap (λ (k : ℕ). withHighWordS (bits 0) ((j + half j) / 2 ^ k * 2 ^ k)) (sym (below-is j low high word))
-      ∙ no-low-word ((j + half j) / 2 ^ below j * 2 ^ below j)
+      high-alone ((j + half j) / 2 ^ below j * 2 ^ below j)
       ∙ ap (λ (k : ℕ). ofBits binary64 (k / 2 ^ below j * 2 ^ below j * 0x100000000)) e
       ∙ ap (λ (k : ℕ). ofBits binary64 (k * 0x100000000)) (cut-fields X ((j + half j) % 0x100000) (below j) below-le)
 

@@ -1,40 +1,31 @@
 -- pow is no NaN and carries no minus sign, for a base from 5.5 to 190 and an exponent from -92 to 92: `pow-plus`. Assumes nothing.
-use Prim.Native.Nat.{ℕ, zero, suc, _+_, _*_, _/_, _%_, _^_, _≤_, _<_}
-use mathlib.Core.Path.{_≡_, refl, sym, subst}
-use mathlib.Core.Bool.{Bool, true, false, not, _&&_, and-false, false≢true}
+use Prim.Native.Nat.{ℕ, _+_, _*_, _%_, _^_, _≤_, _<_}
+use mathlib.Core.Path.{refl, sym, subst}
+use mathlib.Core.Bool.{true, false, false≢true}
 use mathlib.Core.List.{[]}
 use native.Mathlib.Omega.{arith}
 use lib.IntN.{pos, negsuc}
-use lib.Dec.{T, lit<, leb, eqb}
+use lib.Dec.{T, lit<}
 use lib.Ieee.{Float, nan, inf, fin, binary64, mul, div, le, neg, fits, toBits, ofBits, up, down}
 use lib.Ieee.Bits.{ofBits-toBits}
 use lib.Ieee.Fits.{down-pos}
 use lib.Ieee.Scale.{finite}
-use borrow.Author.Tests.{lt-leb, le-ltb, ne-eqb}
-use Rattle.rounding.proofs.Signed.{Signed, signed-of-le, le-neg, round-signed}
+use Rattle.rounding.proofs.Signed.{Signed, signed-of-le, value-signed, le-neg}
 use Rattle.rounding.proofs.Order.{le-trans, between-finite}
 use Rattle.rounding.proofs.BitOrder.{le-bits, toBits-under}
 use Rattle.rounding.proofs.Range.{var, con, times, over, eval, ieval, In, rangeTest, range}
-use Rattle.words.specs.Pick.{pick}
 use Rattle.words.specs.F64.{_⊗_, _⊘_}
-use Rattle.words.specs.Bits.{highWordS, lowWordS}
+use Rattle.words.specs.Bits.{highWordS}
 use Rattle.words.specs.Fabs.{fabsS}
 use Rattle.words.proofs.CutLaws.{word-upto}
 use Rattle.pow_log.specs.Log2.{log2S}
-use Rattle.sqrt.specs.Sqrt.{root, sqrtS}
-use Rattle.pow.specs.Pow.{yisintS, signedS, plainS, finiteS, specialYS, powAtS, powS}
+use Rattle.sqrt.specs.Sqrt.{sqrtS}
+use Rattle.sqrt.proofs.Nearest.{sqrt-nearest}
+use Rattle.pow.specs.Pow.{powS}
+use Rattle.pow.proofs.Courses.{Course, at-zero, at-one, at-minus-one, at-two, at-half, power, course}
 use Rattle.pow_range.proofs.ProductSign.{ninety-two, product-plus}
 use Rattle.pow_range.proofs.Exp2Sign.{one}
 use Rattle.pow_range.proofs.LogRange.{log-range}
-
--- neither argument is special, x has no minus sign, and its high word is hx
-plain-plus : (x y : Float) (hx hy n : ℕ) → 0x40100000 ≤ hx → hx ≤ 0x4067C000 → hy % 0x80000000 ≤ 0x41E00000 → T (fits binary64 y) → In (neg ninety-two) ninety-two y
-    → Signed false (plainS x y hx hy n)
-unfolding plainS signedS
-plain-plus x y hx hy n a b c F i =
-    let w : hx % 0x80000000 ≡ hx = omega arith in
-    let t = log-range (fabsS x) hx a b in
-    simp (lt-leb 0x80000000 hx (omega arith), le-ltb 0x41E00000 (hy % 0x80000000) c, w) (product-plus y (log2S (fabsS x) hx) F i (t .0) (t .1))
 
 -- 5.5 and 190
 abbrev pub from55 : Float
@@ -42,10 +33,6 @@ from55 = fin false 11 (negsuc 0)
 
 abbrev pub to190 : Float
 to190 = fin false 95 (pos 1)
-
-pick-plus : (b : Bool) (u v : Float) → Signed false u → Signed false v → Signed false (pick b u v)
-pick-plus true u v p q = p
-pick-plus false u v p q = q
 
 -- what is at least 2 ^ -10 carries no minus sign
 least-plus : (z : Float) → T (finite z) → T (le (fin false 1 (negsuc 9)) z) → Signed false z
@@ -78,52 +65,26 @@ inverse-plus : (x : Float) → In from55 to190 x → Signed false (one ⊘ x)
 unfolding eval
 inverse-plus x i = in-plus (one ⊘ x) (range binary64 (fin false 1 (negsuc 9)) (fin false 1 (pos 20)) (over (con one) (var 0)) [] [] from55 to190 x inverse-test tt i)
 
-root-plus : (x : Float) → Signed false x → T (finite x) → Signed false (sqrtS x)
-unfolding sqrtS
-root-plus nan p X = absurd X
-root-plus (inf s) p X = absurd X
-root-plus (fin true m e) p X = absurd (false≢true (sym p))
-root-plus (fin false zero e) p X = refl
-root-plus (fin false (suc m) e) p X =
-    let n = suc m * up e * 4 ^ 601 / down e in
-    round-signed binary64 false (2 * root n + pick (eqb (root n * root n) n) 0 1) (2 * 2 ^ 601)
+root-plus : (x : Float) → T (fits binary64 x) → Signed false x → T (finite x) → Signed false (sqrtS x)
+root-plus nan F p X = absurd X
+root-plus (inf s) F p X = absurd X
+root-plus (fin true m e) F p X = absurd (false≢true (sym p))
+root-plus (fin false m e) F p X = let r = sqrt-nearest m e F in value-signed (sqrtS (fin false m e)) false (r .Y) (2 ^ 1074) (r .y-is)
 
 one-plus : Signed false one
 unfolding ofBits
 one-plus = refl
 
--- the words of x and y
-module _ (x y : Float) (hx lx hy ly : ℕ) (a : 0x40160000 ≤ hx) (b : hx ≤ 0x4067C000) (c : hy % 0x80000000 ≤ 0x40570000)
-    (F : T (fits binary64 y)) (X : T (finite x)) (p : Signed false x) (i : In from55 to190 x) (k : In (neg ninety-two) ninety-two y) where
-  finite-plus : Signed false (finiteS x y hx lx hy ly)
-  unfolding finiteS
-  finite-plus =
-      let w : hx % 0x80000000 ≡ hx = omega arith in
-      simp (w, ne-eqb hx 0x7FF00000 (λ e. omega arith), ne-eqb hx 0 (λ e. omega arith), ne-eqb hx 0x3FF00000 (λ e. omega arith), and-false)
-      (plain-plus x y hx hy (yisintS hx (hy % 0x80000000) ly) (omega arith) b (omega arith) F k)
-
-  special-plus : Signed false (specialYS x y hx lx hy ly)
-  unfolding specialYS
-  special-plus =
-      simp (ne-eqb (hy % 0x80000000) 0x7FF00000 (λ e. omega arith), and-false)
-      (pick-plus (eqb ly 0 && eqb (hy % 0x80000000) 0x3FF00000) (pick (not (leb 0x80000000 hy)) x (one ⊘ x)) _
-      (pick-plus (not (leb 0x80000000 hy)) x (one ⊘ x) p (inverse-plus x i))
-      (pick-plus (eqb ly 0 && eqb hy 0x40000000) (x ⊗ x) _ (square-plus x i)
-      (pick-plus (eqb ly 0 && eqb hy 0x3FE00000 && not (leb 0x80000000 hx)) (sqrtS x) _ (root-plus x p X) finite-plus)))
-
-  at-plus : Signed false (powAtS x y hx lx hy ly)
-  unfolding powAtS
-  at-plus =
-      let w : hx % 0x80000000 ≡ hx = omega arith in
-      simp (
-        w,
-        ne-eqb hx 0x3FF00000 (λ e. omega arith),
-        le-ltb 0x7FF00000 hx (omega arith),
-        ne-eqb hx 0x7FF00000 (λ e. omega arith),
-        le-ltb 0x7FF00000 (hy % 0x80000000) (omega arith),
-        ne-eqb (hy % 0x80000000) 0x7FF00000 (λ e. omega arith),
-      )
-      (pick-plus (eqb (hy % 0x80000000) 0 && eqb ly 0) one _ one-plus special-plus)
+-- each course of pow
+module _ (x y : Float) (hx : ℕ) (a : 0x40160000 ≤ hx) (b : hx ≤ 0x4067C000)
+    (G : T (fits binary64 x)) (F : T (fits binary64 y)) (X : T (finite x)) (p : Signed false x) (i : In from55 to190 x) (k : In (neg ninety-two) ninety-two y) where
+  course-plus : (r : Float) → Course x y hx r → Signed false r
+  course-plus r at-zero = one-plus
+  course-plus r at-one = p
+  course-plus r at-minus-one = inverse-plus x i
+  course-plus r at-two = square-plus x i
+  course-plus r at-half = root-plus x G p X
+  course-plus r power = let t = log-range (fabsS x) hx (omega arith) b in product-plus y (log2S (fabsS x) hx) F k (t .0) (t .1)
 
 -- the high word of x
 base-word : (x : Float) → T (fits binary64 x) → Signed false x → In from55 to190 x → (0x40160000 ≤ highWordS x) × (highWordS x ≤ 0x4067C000)
@@ -142,16 +103,17 @@ base-word (fin false m e) F p i =
 
 -- the high word of |y|
 exponent-word : (y : Float) → T (fits binary64 y) → In (neg ninety-two) ninety-two y → highWordS y % 0x80000000 ≤ 0x40570000
-unfolding ofBits fabsS neg
+unfolding ofBits neg
 exponent-word nan F i = absurd (between-finite (neg ninety-two) nan ninety-two tt tt (i .0) (i .1))
 exponent-word (inf s) F i = absurd (between-finite (neg ninety-two) (inf s) ninety-two tt tt (i .0) (i .1))
-exponent-word (fin false m e) F i = word-upto (fin false m e) F tt 0x4057000000000000 (lit< tt) (i .1)
-exponent-word (fin true m e) F i = word-upto (fin true m e) F tt 0x4057000000000000 (lit< tt) (le-neg (neg ninety-two) (fin true m e) (i .0))
+exponent-word (fin false m e) F i = word-upto false m e F 0x4057000000000000 (lit< tt) (i .1)
+exponent-word (fin true m e) F i = word-upto true m e F 0x4057000000000000 (lit< tt) (le-neg (neg ninety-two) (fin true m e) (i .0))
 
 pub pow-plus : (x y : Float) → T (fits binary64 x) → T (fits binary64 y) → In from55 to190 x → In (neg ninety-two) ninety-two y → Signed false (powS x y)
-unfolding powS le
+unfolding le
 pow-plus x y F G i k =
     let X = between-finite from55 x to190 tt tt (i .0) (i .1) in
     let p = least-plus x X (le-trans (fin false 1 (negsuc 9)) from55 x tt (i .0)) in
     let w = base-word x F p i in
-    at-plus x y (highWordS x) (lowWordS x) (highWordS y) (lowWordS y) (w .0) (w .1) (exponent-word y G k) G X p i k
+    let v = exponent-word y G k in
+    course-plus x y (highWordS x) (w .0) (w .1) F G X p i k (powS x y) (course x y (omega arith) (omega arith) (omega arith))

@@ -1,32 +1,30 @@
 -- `productS` with the sign 1 is no NaN and carries no minus sign, for a y of at most 92 in size, t1 of at most 8 and t2 of at most 1:
 -- `product-plus`. Assumes nothing.
-use Prim.Native.Nat.{ℕ, _+_, _-_, _*_, _/_, _%_, _^_, _≤_, _<_}
-use mathlib.Core.Path.{_≡_, refl, sym, ap, subst}
-use mathlib.Core.Bool.{Bool, true, false, and-false}
+use Prim.Native.Nat.{ℕ, _+_, _-_, _*_, _^_, _≤_}
+use mathlib.Core.Path.{refl, sym, subst}
+use mathlib.Core.Bool.{Bool, true, false}
 use mathlib.Core.List.{[], _∷_}
 use native.Mathlib.Omega.{arith}
-use native.Mathlib.Nat.{le-of-eq, le-of-lt, le-trans, add-zero}
+use native.Mathlib.Nat.{le-of-eq, le-of-lt, le-trans, lt-of-le-of-lt}
 use lib.IntN.{pos}
 use lib.Pow.{pow-pos, pow-add}
-use lib.Dec.{T, lit<, ltb}
-use lib.Ieee.{Float, nan, inf, fin, binary64, add, mul, le, neg, fits, toBits, ofBits}
+use lib.Dec.{T, lit<}
+use lib.Ieee.{Float, fin, binary64, add, mul, le, neg, fits}
 use lib.Ieee.Exact.{HasValue}
-use lib.Ieee.Scale.{finite}
 use lib.Ieee.Fits.{add-fits, mul-fits}
-use borrow.Author.Tests.{lt-leb, ltb-true}
-use Rattle.rounding.proofs.Signed.{Signed, signed-of-le, le-of-signed, value-finite, value-neg}
-use Rattle.rounding.proofs.Order.{between-finite, neg-finite}
-use Rattle.rounding.proofs.Grid.{on-grid}
-use Rattle.rounding.proofs.Cut.{cut}
+use Rattle.rounding.proofs.Signed.{Signed}
+use Rattle.rounding.proofs.Sums.{in-units, within, NearDifference, difference-near}
 use Rattle.rounding.proofs.Interval.{some}
 use Rattle.rounding.proofs.Range.{Expr, var, plus, times, eval, ieval, In, rangeTest, range}
 use Rattle.words.specs.F64.{_⊕_, _⊖_, _⊗_}
-use Rattle.words.specs.Bits.{highWordS, lowWordS, withLowWordS}
+use Rattle.words.specs.Bits.{withLowWordS}
+use Rattle.words.proofs.PatternLaws.{low-cleared}
 use Rattle.pow_log.specs.declared.Parts.{Parts}
-use Rattle.pow_exp.specs.Exp2.{exp2S, boundedS, productS}
+use Rattle.pow_exp.specs.Exp2.{productS}
+use Rattle.pow_exp.proofs.Courses.{lowOf, highOf, product-within}
 use Rattle.pow_range.proofs.FractionRange.{slight}
-use Rattle.pow_range.proofs.Reduced.{cut-value, NearDifference, difference-near, over-low, under-high, within-slight}
-use Rattle.pow_range.proofs.Exp2Range.{word-high, word-under}
+use Rattle.pow_range.proofs.Reduced.{cut-value}
+use Rattle.pow_range.proofs.Exp2Range.{word-high}
 use Rattle.pow_range.proofs.Exp2Sign.{one, exp2-plus}
 
 -- 1, 8, 92, 100 and 750
@@ -45,35 +43,7 @@ hundred = fin false 25 (pos 2)
 abbrev wide : Float
 wide = fin false 375 (pos 1)
 
--- a value of at most c = k in size is ±X units, of which 2 ^ 1074 are 1
-pub in-units : (x c : Float) (k : ℕ) → HasValue c false k 1 → T (fits binary64 x) → In (neg c) c x → (s : Bool) × (X : ℕ) × HasValue x s X (2 ^ 1074) × (X ≤ k * 2 ^ 1074)
-in-units x c k v F i = go x F i (between-finite (neg c) x c (neg-finite c (value-finite c false k 1 v)) (value-finite c false k 1 v) (i .0) (i .1))
-  where
-    upper : (A k L : ℕ) → A * 1 + 0 * L ≤ k * L + 0 * 1 → A ≤ k * L
-    upper A k L h = omega arith
-
-    lower : (A k L : ℕ) → 0 * L + A * 1 ≤ 0 * 1 + k * L → A ≤ k * L
-    lower A k L h = omega arith
-
-    go : (x : Float) → T (fits binary64 x) → In (neg c) c x → T (finite x) → (s : Bool) × (X : ℕ) × HasValue x s X (2 ^ 1074) × (X ≤ k * 2 ^ 1074)
-    go nan F i X = absurd X
-    go (inf _) F i X = absurd X
-    go (fin false m e) F i X =
-        let g = on-grid binary64 false m e F in
-        let A = m * 2 ^ (g .0) in
-        let w : HasValue (fin false m e) false A (2 ^ 1074) = (refl, g .1 .0) in
-        (false, A, w, upper A k (2 ^ 1074) (signed-of-le (fin false m e) c false A (2 ^ 1074) false k 1 w v (i .1)))
-    go (fin true m e) F i X =
-        let g = on-grid binary64 true m e F in
-        let A = m * 2 ^ (g .0) in
-        let w : HasValue (fin true m e) true A (2 ^ 1074) = (refl, g .1 .0) in
-        (true, A, w, lower A k (2 ^ 1074) (signed-of-le (neg c) (fin true m e) true k 1 true A (2 ^ 1074) (value-neg c false k 1 v) w (i .0)))
-
 -- ---- y1 is y cut, and what the cut takes off is slight
-
-pub y1-is : (y : Float) → withLowWordS y 0 ≡ cut binary64 32 y
-unfolding cut
-y1-is y = ap (ofBits binary64) (add-zero (toBits binary64 y / 2 ^ 32 * 2 ^ 32))
 
 -- ±D is within E / 2 of the difference of ±Y and ±C, two numbers of one sign
 of-one-sign : (u : Bool) (D : ℕ) (s : Bool) (Y C E : ℕ) → C ≤ Y → NearDifference u D s Y s C E → 2 * D ≤ 2 * (Y - C) + E
@@ -106,7 +76,7 @@ module _ (y : Float) (F : T (fits binary64 y)) (i : In (neg ninety-two) ninety-t
       let Y = v .1 in
       let c = cut-value y s Y F (v .2) in
       let C = c .0 in
-      let vc : HasValue y1 s C L = subst (λ (z : Float). HasValue z s C L) (sym (y1-is y)) (c .1) in
+      let vc : HasValue y1 s C L = subst (λ (z : Float). HasValue z s C L) (sym (low-cleared y)) (c .1) in
       let d = difference-near y y1 s Y s C (v .2) vc (small-sum Y C L (v .3) (c .2 .0)) in
       let D = d .1 in
       let D-le = of-one-sign (d .0) D s Y C E (c .2 .0) (d .3) in (
@@ -114,16 +84,11 @@ module _ (y : Float) (F : T (fits binary64 y)) (i : In (neg ninety-two) ninety-t
         C,
         vc,
         le-trans (c .2 .0) (v .3),
-        within-slight (y ⊖ y1) (d .0) D L (pow-pos 1074) (d .2) (slight-rest Y C D E L 0x10000000000000 (v .3) (c .2 .0) (c .2 .1) D-le fine (le-of-lt (lit< tt))),
+        within (y ⊖ y1) slight (d .0) D L 1 1024 (pow-pos 1074) (lit< tt) (d .2) (refl, refl) (slight-rest Y C D E L 0x10000000000000 (v .3) (c .2 .0) (c .2 .1) D-le fine (le-of-lt (lit< tt))),
       )
 
   y1-in : In (neg ninety-two) ninety-two y1
-  unfolding neg
-  y1-in =
-      let k = split in (
-        le-of-signed (neg ninety-two) y1 true 92 1 (k .0) (k .1) (2 ^ 1074) (lit< tt) (pow-pos 1074) (refl, refl) (k .2) (over-low (k .0) (k .1) (2 ^ 1074) 92 1 (one-times (k .1) (92 * 2 ^ 1074) (k .3))),
-        le-of-signed y1 ninety-two (k .0) (k .1) (2 ^ 1074) false 92 1 (pow-pos 1074) (lit< tt) (k .2) (refl, refl) (under-high (k .0) (k .1) (2 ^ 1074) 92 1 (one-times (k .1) (92 * 2 ^ 1074) (k .3))),
-      )
+  y1-in = let k = split in within y1 ninety-two (k .0) (k .1) (2 ^ 1074) 92 1 (pow-pos 1074) (lit< tt) (k .2) (refl, refl) (one-times (k .1) (92 * 2 ^ 1074) (k .3))
     where
       one-times : (a b : ℕ) → a ≤ b → a * 1 ≤ b
       one-times a b h = omega arith
@@ -161,25 +126,13 @@ module _ (y t1 t2 : Float) (F : T (fits binary64 y)) (i : In (neg ninety-two) ni
 sum-le : (A B L : ℕ) → A ≤ 100 * L → B ≤ 750 * L → A + B ≤ 900 * L
 sum-le A B L a b = omega arith
 
--- a word whose digits are those of less than 1000 leads to exp2S
-within : (s p·h p·l z : Float) (j i : ℕ) → j % 0x80000000 ≤ 0x408F4000 → j < 0x100000000 → boundedS s p·h p·l z j i ≡ exp2S s p·h p·l j
-unfolding boundedS
-within s p·h p·l z j i h k = go (ltb j 0x80000000) refl
-  where
-    go : (t : Bool) → ltb j 0x80000000 ≡ t → boundedS s p·h p·l z j i ≡ exp2S s p·h p·l j
-    go true e = let l = ltb-true j 0x80000000 e in simp (lt-leb 0x40900000 j (omega arith), lt-leb 0x4090CC00 (j % 0x80000000) (omega arith))
-    go false e = simp (e, lt-leb 0x4090CC00 (j % 0x80000000) (omega arith), and-false)
-
 pub product-plus : (y : Float) (t : Parts) → T (fits binary64 y) → In (neg ninety-two) ninety-two y → In (neg eight) eight (t .t1) → In (neg one1) one1 (t .t2)
     → Signed false (productS one y t)
-unfolding productS
 product-plus y t F i j k =
-    let p·l = (y ⊖ withLowWordS y 0) ⊗ t .t1 ⊕ y ⊗ t .t2 in
-    let p·h = withLowWordS y 0 ⊗ t .t1 in
-    let z = p·l ⊕ p·h in
+    let p·l = lowOf y t in
+    let p·h = highOf y t in
     let a = in-units p·l hundred 100 (refl, refl) (add-fits binary64 ((y ⊖ withLowWordS y 0) ⊗ t .t1) (y ⊗ t .t2)) (p·l-in y (t .t1) (t .t2) F i j k) in
     let b = in-units p·h wide 750 (refl, refl) (mul-fits binary64 (withLowWordS y 0) (t .t1)) (p·h-in y (t .t1) (t .t2) F i j k) in
     let small = sum-le (a .1) (b .1) (2 ^ 1074) (a .3) (b .3) in
-    subst (Signed false)
-    (sym (within one p·h p·l z (highWordS z) (lowWordS z) (word-high p·l p·h (a .0) (a .1) (b .0) (b .1) (a .2) (b .2) small) (word-under p·l p·h (a .0) (a .1) (b .0) (b .1) (a .2) (b .2) small)))
-    (exp2-plus p·l p·h (a .0) (a .1) (b .0) (b .1) (a .2) (b .2) small)
+    let w = word-high p·l p·h (a .0) (a .1) (b .0) (b .1) (a .2) (b .2) small in
+    subst (Signed false) (sym (product-within one y t (lt-of-le-of-lt w (lit< tt)))) (exp2-plus p·l p·h (a .0) (a .1) (b .0) (b .1) (a .2) (b .2) small)

@@ -1,88 +1,36 @@
 -- The sum of two values p_l and g of at most 2048 in size, where it is at most 1/2 and a little in size: its upper word's value t and
 -- what that leaves, e, are as small as `fraction-range` wants them: `small-parts`. Linear in the smallest unit. Assumes nothing.
-use Prim.Native.Nat.{ℕ, _+_, _-_, _*_, _/_, _^_, _≤_, _<_}
-use mathlib.Core.Path.{_≡_, refl, sym, ap, _∙_, subst}
-use mathlib.Core.Bool.{Bool, true, false, not}
+use Prim.Native.Nat.{ℕ, _+_, _-_, _*_, _/_, _^_, _≤_}
+use mathlib.Core.Path.{_≡_, refl, sym, subst}
+use mathlib.Core.Bool.{Bool, true, false}
 use native.Mathlib.Omega.{arith}
-use native.Mathlib.Nat.{lt-of-le-of-lt, le-of-lt, le-of-eq, eq-or-lt-of-le, add-zero, div-mul-le-self, zero-mul, eq-of-mul-eq-mul-right}
-use mathlib.Core.Logic.{inl, inr}
+use native.Mathlib.Nat.{lt-of-le-of-lt, le-of-lt, le-of-eq, div-mul-le-self}
 use lib.IntN.{ℤ}
 use lib.Pow.{pow-pos, pow-add}
 use lib.Dec.{T, lit<}
-use lib.Ieee.{Float, nan, inf, fin, binary64, down, neg, add, sub, fits, toBits, ofBits}
+use lib.Ieee.{Float, nan, inf, fin, binary64, neg, add, sub, fits, toBits}
 use lib.Ieee.Bits.{ofBits-toBits}
 use lib.Ieee.Exact.{HasValue}
-use lib.Ieee.Fits.{down-pos, add-fits}
-use Rattle.rounding.proofs.Signed.{P, N, Le, le-of-signed, value-neg}
-use Rattle.rounding.proofs.Fraction.{sub-is}
-use Rattle.rounding.proofs.Error.{NearSum, add-near}
-use Rattle.rounding.proofs.BitOrder.{bitVal, val-lt, bits-val, toBits-under}
-use Rattle.rounding.proofs.Cut.{cut, cut-neg, cut-near}
+use lib.Ieee.Fits.{add-fits}
+use Rattle.rounding.proofs.Signed.{P, N, value-neg, value-unique}
+use Rattle.rounding.proofs.Error.{NearSum}
+use Rattle.rounding.proofs.Sums.{within, difference-near, size-of-difference, one-side}
+use Rattle.rounding.proofs.BitOrder.{bitVal, val-le, bits-val, toBits-under}
+use Rattle.rounding.proofs.Cut.{cut, cut-is, cut-neg, cut-near}
 use Rattle.rounding.proofs.Range.{In}
-use Rattle.words.proofs.PatternLaws.{fits-any-sign}
-use Rattle.pow_range.proofs.FractionRange.{bound, slight, tOf, eOf}
-
--- ---- from units to the order
-
--- ±X / L lies from -a / b to a / b
-module _ (s : Bool) (X L a b : ℕ) (h : X * b ≤ a * L) where
-  pub over-low : Le true a b s X L
-  over-low = go s
-    where
-      go : (s : Bool) → Le true a b s X L
-      go false = omega (arith, zero-mul L, zero-mul b)
-      go true = omega (arith, zero-mul L, zero-mul b)
-
-  pub under-high : Le s X L false a b
-  under-high = go s
-    where
-      go : (s : Bool) → Le s X L false a b
-      go false = omega (arith, zero-mul L, zero-mul b)
-      go true = omega (arith, zero-mul L, zero-mul b)
-
-module _ (x : Float) (s : Bool) (X L : ℕ) (U : 0 < L) (v : HasValue x s X L) where
-  pub within-bound : X * 64 ≤ 33 * L → In (neg bound) bound x
-  unfolding neg
-  within-bound h = (
-    le-of-signed (neg bound) x true 33 64 s X L (lit< tt) U (refl, refl) v (over-low s X L 33 64 h),
-    le-of-signed x bound s X L false 33 64 U (lit< tt) v (refl, refl) (under-high s X L 33 64 h),
-  )
-
-  pub within-slight : X * 1024 ≤ 1 * L → In (neg slight) slight x
-  unfolding neg
-  within-slight h = (
-    le-of-signed (neg slight) x true 1 1024 s X L (lit< tt) U (refl, refl) v (over-low s X L 1 1024 h),
-    le-of-signed x slight s X L false 1 1024 U (lit< tt) v (refl, refl) (under-high s X L 1 1024 h),
-  )
+use Rattle.words.proofs.PatternLaws.{fits-any-sign, low-cleared}
+use Rattle.pow_exp.proofs.FractionExpr.{tOf, eOf}
+use Rattle.pow_range.proofs.FractionRange.{bound, slight}
 
 -- ---- what a cut takes off
-
-P-not : (s : Bool) (X : ℕ) → P (not s) X ≡ N s X
-P-not false X = refl
-P-not true X = refl
-
-N-not : (s : Bool) (X : ℕ) → N (not s) X ≡ P s X
-N-not false X = refl
-N-not true X = refl
-
--- a value is one number of units
-pub unique : (x : Float) (s t : Bool) (X Y L : ℕ) → HasValue x s X L → HasValue x t Y L → X ≡ Y
-unique nan s t X Y L v w = absurd v
-unique (inf _) s t X Y L v w = absurd v
-unique (fin u m e) s t X Y L v w = eq-of-mul-eq-mul-right (down e) (down-pos e) X Y (sym (v .1) ∙ w .1)
 
 -- C units are left of X, which is at most C, a 2 ^ 20th of X and little more
 abbrev pub CutTo : ℕ → ℕ → Type 0
 CutTo X C = (C ≤ X) × (X * 0x100000 ≤ C * 0x100000 + X + 0x10000000000000)
 
--- the value grows with the pattern
-pub value-le : (b c : ℕ) → c ≤ b → bitVal binary64 c ≤ bitVal binary64 b
-value-le b c h = elim (eq-or-lt-of-le h) [ inl e ↦ le-of-eq (ap (bitVal binary64) e) | inr l ↦ le-of-lt (val-lt binary64 c b l) ]
-
 -- of a value with no minus sign
 cut-plus : (m : ℕ) (e : ℤ) (X : ℕ) → T (fits binary64 (fin false m e)) → HasValue (fin false m e) false X (2 ^ 1074)
     → (C : ℕ) × HasValue (cut binary64 32 (fin false m e)) false C (2 ^ 1074) × CutTo X C
-unfolding cut
 cut-plus m e X F v =
     let x = fin false m e in
     let b = toBits binary64 x in
@@ -90,11 +38,11 @@ cut-plus m e X F v =
     let under = toBits-under binary64 m e F in
     let c-le : c ≤ b = div-mul-le-self b (2 ^ 32) in
     let vb = bits-val binary64 b under in
-    let is : X ≡ bitVal binary64 b = unique x false false X (bitVal binary64 b) (2 ^ 1074) v (subst (λ (z : Float). HasValue z false (bitVal binary64 b) (2 ^ 1074)) (ofBits-toBits binary64 x F) vb) in
+    let is : X ≡ bitVal binary64 b = value-unique x false false X (bitVal binary64 b) (2 ^ 1074) v (subst (λ (z : Float). HasValue z false (bitVal binary64 b) (2 ^ 1074)) (ofBits-toBits binary64 x F) vb) in
     let near = cut-near binary64 b 32 (le-of-lt (lit< tt)) in (
       bitVal binary64 c,
-      bits-val binary64 c (lt-of-le-of-lt c-le under),
-      subst (λ (k : ℕ). CutTo k (bitVal binary64 c)) (sym is) (value-le b c c-le, near),
+      subst (λ (z : Float). HasValue z false (bitVal binary64 c) (2 ^ 1074)) (sym (cut-is binary64 32 x)) (bits-val binary64 c (lt-of-le-of-lt c-le under)),
+      subst (λ (k : ℕ). CutTo k (bitVal binary64 c)) (sym is) (val-le binary64 c b c-le, near),
     )
 
 pub cut-value : (x : Float) (s : Bool) (X : ℕ) → T (fits binary64 x) → HasValue x s X (2 ^ 1074)
@@ -120,49 +68,9 @@ left-over : (p p' g g' s s' c c' d d' e e' E K : ℕ)
     → (2 * e ≤ 2 * e' + 2 * K + 3 * E) × (2 * e' ≤ 2 * e + 2 * K + 3 * E)
 left-over p p' g g' s s' c c' d d' e e' E K a b i j k l m n = (omega arith, omega arith)
 
--- ±X, within K / 2 of zero on either side
-pub one-side : (s : Bool) (X K : ℕ) → 2 * P s X ≤ 2 * N s X + K → 2 * N s X ≤ 2 * P s X + K → 2 * X ≤ K
-one-side false X K a b = omega arith
-one-side true X K a b = omega arith
-
 both-sides : (s : Bool) (S C K : ℕ) → C ≤ S → S ≤ C + K → (P s S + N s C ≤ P s C + N s S + K) × (P s C + N s S ≤ P s S + N s C + K)
 both-sides false S C K a b = (omega arith, omega arith)
 both-sides true S C K a b = (omega arith, omega arith)
-
--- a sum, and a difference, of values of at most 4000 together: off by half of 2 ^ 1033 units at most
-pub sum-near : (x y : Float) (s : Bool) (X : ℕ) (t : Bool) (Y : ℕ) → HasValue x s X (2 ^ 1074) → HasValue y t Y (2 ^ 1074) → X + Y ≤ 4000 * 2 ^ 1074
-    → (u : Bool) × (G : ℕ) × HasValue (add binary64 x y) u G (2 ^ 1074) × NearSum u G s X t Y (2 ^ 1033)
-sum-near x y s X t Y v w h =
-    add-near binary64 x y s X t Y 1033 v w (lt-of-le-of-lt h (lit< tt)) (lt-of-le-of-lt (more (X + Y) (4000 * 2 ^ 1074) (2 ^ 1033) h) (lit< tt))
-  where
-    more : (a b c : ℕ) → a ≤ b → a + c ≤ b + c
-    more a b c h = omega arith
-
--- ±G lies within E / 2 of the difference of ±X and ±Y
-abbrev pub NearDifference : Bool → ℕ → Bool → ℕ → Bool → ℕ → ℕ → Type 0
-NearDifference u G s X t Y E =
-    (2 * (P u G + (N s X + P t Y)) ≤ 2 * (N u G + (P s X + N t Y)) + E)
-    × (2 * (N u G + (P s X + N t Y)) ≤ 2 * (P u G + (N s X + P t Y)) + E)
-
-turned : (u : Bool) (G : ℕ) (s : Bool) (X : ℕ) (t : Bool) (Y E : ℕ) → NearSum u G s X (not t) Y E → NearDifference u G s X t Y E
-turned u G s X false Y E h = h
-turned u G s X true Y E h = h
-
-pub difference-near : (x y : Float) (s : Bool) (X : ℕ) (t : Bool) (Y : ℕ) → HasValue x s X (2 ^ 1074) → HasValue y t Y (2 ^ 1074) → X + Y ≤ 4000 * 2 ^ 1074
-    → (u : Bool) × (G : ℕ) × HasValue (sub binary64 x y) u G (2 ^ 1074) × NearDifference u G s X t Y (2 ^ 1033)
-difference-near x y s X t Y v w h =
-    let k = sum-near x (neg y) s X (not t) Y v (value-neg y t Y (2 ^ 1074) w) h in
-    (k .0, k .1, subst (λ (z : Float). HasValue z (k .0) (k .1) (2 ^ 1074)) (sym (sub-is binary64 x y)) (k .2), turned (k .0) (k .1) s X t Y (2 ^ 1033) (k .3))
-
-pub size-of-difference : (u : Bool) (G : ℕ) (s : Bool) (X : ℕ) (t : Bool) (Y E : ℕ) → NearDifference u G s X t Y E → 2 * G ≤ 2 * (X + Y) + E
-size-of-difference false G false X false Y E h = omega arith
-size-of-difference false G false X true Y E h = omega arith
-size-of-difference false G true X false Y E h = omega arith
-size-of-difference false G true X true Y E h = omega arith
-size-of-difference true G false X false Y E h = omega arith
-size-of-difference true G false X true Y E h = omega arith
-size-of-difference true G true X false Y E h = omega arith
-size-of-difference true G true X true Y E h = omega arith
 
 room : (A G S C L : ℕ) → A + G ≤ 2000 * L → S * 64 ≤ 33 * L → C ≤ S → C + G ≤ 4000 * L
 room A G S C L a b c = omega arith
@@ -178,10 +86,6 @@ slight-enough S C R E L H a b c d e f = omega arith
 module _ (p·l g : Float) (s : Bool) (A : ℕ) (v : Bool) (G : ℕ) (w : Bool) (S : ℕ)
     (vp : HasValue p·l s A (2 ^ 1074)) (vg : HasValue g v G (2 ^ 1074)) (vs : HasValue (add binary64 p·l g) w S (2 ^ 1074))
     (sum : NearSum w S s A v G (2 ^ 1033)) (small : A + G ≤ 2000 * 2 ^ 1074) (less : S * 64 ≤ 33 * 2 ^ 1074) where
-  t-is : tOf g p·l ≡ cut binary64 32 (add binary64 p·l g)
-  unfolding cut
-  t-is = ap (ofBits binary64) (add-zero (toBits binary64 (add binary64 p·l g) / 2 ^ 32 * 2 ^ 32))
-
   pub small-parts : In (neg bound) bound (tOf g p·l) × In (neg slight) slight (eOf g p·l)
   small-parts =
       let L = 2 ^ 1074 in
@@ -189,7 +93,7 @@ module _ (p·l g : Float) (s : Bool) (A : ℕ) (v : Bool) (G : ℕ) (w : Bool) (
       let fine : E * 0x20000000000 ≤ L = le-of-eq (sym (pow-add 2 1033 41)) in
       let c = cut-value (add binary64 p·l g) w S (add-fits binary64 p·l g) vs in
       let C = c .0 in
-      let vt : HasValue (tOf g p·l) w C L = subst (λ (z : Float). HasValue z w C L) (sym t-is) (c .1) in
+      let vt : HasValue (tOf g p·l) w C L = subst (λ (z : Float). HasValue z w C L) (sym (low-cleared (add binary64 p·l g))) (c .1) in
       let d = difference-near (tOf g p·l) g w C v G vt vg (room A G S C L small less (c .2 .0)) in
       let D = d .1 in
       let D-le = size-of-difference (d .0) D w C v G E (d .3) in
@@ -202,8 +106,8 @@ module _ (p·l g : Float) (s : Bool) (A : ℕ) (v : Bool) (G : ℕ) (w : Bool) (
       left-over (P s A) (N s A) (P v G) (N v G) (P w S) (N w S) (P w C) (N w C) (P (d .0) D) (N (d .0) D) (P y R) (N y R) E K
       (sum .0) (sum .1) (k .0) (k .1) (d .3 .0) (d .3 .1) (r .3 .0) (r .3 .1) in
       let R-le : 2 * R ≤ 2 * K + 3 * E = one-side y R (2 * K + 3 * E) (group (2 * P y R) (2 * N y R) (2 * K) (3 * E) (l .0)) (group (2 * N y R) (2 * P y R) (2 * K) (3 * E) (l .1)) in (
-        within-bound (tOf g p·l) w C L (pow-pos 1074) vt (cut-less C S L less (c .2 .0)),
-        within-slight (eOf g p·l) y R L (pow-pos 1074) (r .2) (slight-enough S C R E L 0x10000000000000 R-le (c .2 .0) (c .2 .1) less fine (le-of-lt (lit< tt))),
+        within (tOf g p·l) bound w C L 33 64 (pow-pos 1074) (lit< tt) vt (refl, refl) (cut-less C S L less (c .2 .0)),
+        within (eOf g p·l) slight y R L 1 1024 (pow-pos 1074) (lit< tt) (r .2) (refl, refl) (slight-enough S C R E L 0x10000000000000 R-le (c .2 .0) (c .2 .1) less fine (le-of-lt (lit< tt))),
       )
     where
       under : (S C : ℕ) → C ≤ S → S ≤ C + (S - C)

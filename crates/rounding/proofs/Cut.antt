@@ -26,7 +26,7 @@ use Rattle.rounding.proofs.BitOrder.{toBits-under, bits-neg, toBits-neg
 unfoldable pub cut : Format → ℕ → Float → Float
 cut f k x = ofBits f (toBits f x / 2 ^ k * 2 ^ k)
 
-cut-is : (f : Format) (k : ℕ) (x : Float) → cut f k x ≡ ofBits f (toBits f x / 2 ^ k * 2 ^ k)
+pub cut-is : (f : Format) (k : ℕ) (x : Float) → cut f k x ≡ ofBits f (toBits f x / 2 ^ k * 2 ^ k)
 unfolding cut
 cut-is f k x = refl
 

@@ -8,7 +8,7 @@ pub mod Order
 pub mod Fraction
 -- a change of sign through products, quotients and sums
 pub mod Odd
--- sums, differences, products and quotients keep or turn the order in each operand
+-- sums, products and quotients keep or turn the order in each operand
 pub mod Monotone
 -- values that fit as whole numbers of the smallest unit
 pub mod Grid
@@ -28,3 +28,5 @@ pub mod Cut
 pub mod Interval
 -- bounds on a whole expression by one computed test
 pub mod Range
+-- f64 values in units, and how far their sums are off
+pub mod Sums

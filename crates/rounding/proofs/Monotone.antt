@@ -1,5 +1,5 @@
 -- The rounded operations keep or turn the order in each operand, on finite values of all signs:
---   `add-mono`, `sub-mono`: a sum grows with both operands, a difference with the first and against the second;
+--   `add-mono`: a sum grows with both operands;
 --   `mul-mono-plus`, `mul-anti-minus`: a product by a factor with no minus sign keeps the order, by one with a minus sign it turns it;
 --   `div-mono-left`, `div-anti-right`, `div-mono-right`: the same of a quotient by a divisor above zero, and of a growing divisor;
 --   `mul-between`, `div-between-left`, `div-between-right`: so the result at a point lies between those at the two ends.
@@ -12,13 +12,13 @@ use native.Mathlib.Omega.{arith}
 use mathlib.Core.Bool.{Bool, true, false}
 use lib.IntN.{ℤ}
 use lib.Dec.{T, ltb→lt}
-use lib.Ieee.{Float, nan, inf, fin, Format, up, down, round, neg, add, mul, sub, div, le}
+use lib.Ieee.{Float, nan, inf, fin, Format, up, down, round, neg, add, mul, div, le}
 use lib.Ieee.Fits.{up-pos, down-pos}
 use lib.Ieee.Scale.{finite}
 use lib.Ieee.Positive.{positive}
 use Rattle.rounding.proofs.Signed.{P, N, Le, Le-scale, le→Le, le-neg, round-Le}
-use Rattle.rounding.proofs.Order.{neg-finite, Between}
-use Rattle.rounding.proofs.Fraction.{unlike-false, add-fraction, sub-is, mul-is, div-is}
+use Rattle.rounding.proofs.Order.{Between}
+use Rattle.rounding.proofs.Fraction.{unlike-false, add-fraction, mul-is, div-is}
 use Rattle.rounding.proofs.Odd.{mul-neg-right, div-neg}
 
 -- ---- sums and differences
@@ -57,12 +57,6 @@ add-mono f (fin s m e) (fin s' m' e') (fin t n d) (fin t' n' d') p p' q q' h k =
     (P s' (m' * up e')) (N s' (m' * up e')) (down e') (P t' (n' * up d')) (N t' (n' * up d')) (down d')
     (P (S .0) (S .1)) (N (S .0) (S .1)) (P (S' .0) (S' .1)) (N (S' .0) (S' .1))
     (le→Le s m e s' m' e' h) (le→Le t n d t' n' d' k) (S .3) (S' .3)))
-
--- a difference grows with its first operand, and falls as the second grows
-pub sub-mono : (f : Format) (x x' y y' : Float) → T (finite x) → T (finite x') → T (finite y) → T (finite y')
-    → T (le x x') → T (le y' y) → T (le (sub f x y) (sub f x' y'))
-sub-mono f x x' y y' p p' q q' h k =
-    rw (sub-is f x y, sub-is f x' y') (add-mono f x x' (neg y) (neg y') p p' (neg-finite y q) (neg-finite y' q') h (le-neg y' y k))
 
 -- ---- products
 

@@ -1,19 +1,22 @@
 -- The order `le` on floats:
 --   `le-refl`, `le-total`, `le-trans`: it is reflexive and total on finite values, and transitive on all;
 --   `lt-le`, `le-of-not-lt`, `not-lt-of-le`: `lt` is the order without equality;
+--   `eq-values`: the test `eq` on two values of one sign, by any fractions that they equal;
 --   `between-finite`, `neg-finite`: what lies between finite values is finite, and so is the negative of one;
 --   `Between`, `between-bounds`: to lie between two values, one way round or the other.
 -- Assumes nothing.
-use mathlib.Core.Path.{_≡_, refl}
+use mathlib.Core.Path.{_≡_, refl, sym, ap, _∙_}
 use mathlib.Core.Logic.{_⊎_, inl, inr}
 use Prim.Native.Nat.{ℕ, _+_, _*_, _≤_, _<_}
+use native.Mathlib.Nat.{mul-comm, mul-pos, mul-mul-mul-comm, eq-of-mul-eq-mul-right}
 use native.Mathlib.Omega.{arith}
-use mathlib.Core.Bool.{Bool, true, false, not, _||_}
-use lib.Dec.{T, T-not, ltb, ltb→lt, nltb→le}
-use lib.Ieee.{Float, nan, inf, fin, up, down, neg, le, lt, eq}
+use mathlib.Core.Bool.{Bool, true, false, not, _||_, _&&_, false≢true}
+use lib.Dec.{T, T-not, ltb, ltb→lt, nltb→le, eqb}
+use lib.Ieee.{Float, nan, inf, fin, up, down, neg, le, lt, eq, level}
+use lib.Ieee.Exact.{HasValue}
 use lib.Ieee.Fits.{down-pos}
 use lib.Ieee.Scale.{finite}
-use borrow.Author.Tests.{le-ltb}
+use borrow.Author.Tests.{le-ltb, eqb-true, eq-eqb, ne-eqb}
 use Rattle.rounding.proofs.Signed.{P, N, Le-refl, Le-trans, le→Le, Le→le, le-signed}
 
 -- a finite value is at most itself
@@ -107,6 +110,54 @@ not-lt-of-le (fin true m e) (fin false n d) X Y h =
     let k = le→Le false n d true m e h in le-ltb 0 (m * up e * down d + n * up d * down e) (omega arith)
 not-lt-of-le (fin true m e) (fin true n d) X Y h =
     let k = le→Le true n d true m e h in le-ltb (n * up d * down e) (m * up e * down d) (omega arith)
+
+-- ---- `eq`
+cross : (M N p q a b c d : ℕ) → 0 < p → 0 < q → M * c ≡ a * p → N * d ≡ b * q → M * q ≡ N * p → a * d ≡ b * c
+cross M N p q a b c d P Q h k e =
+    eq-of-mul-eq-mul-right (p * q) (mul-pos P Q) (a * d) (b * c)
+    (mul-mul-mul-comm a d p q
+    ∙ ap (λ (z : ℕ). z * (d * q)) (sym h)
+    ∙ ap (λ (z : ℕ). M * c * z) (mul-comm d q)
+    ∙ mul-mul-mul-comm M c q d
+    ∙ ap (λ (z : ℕ). z * (c * d)) e
+    ∙ ap (λ (z : ℕ). N * p * z) (mul-comm c d)
+    ∙ mul-mul-mul-comm N p d c
+    ∙ ap (λ (z : ℕ). z * (p * c)) k
+    ∙ ap (λ (z : ℕ). b * q * z) (mul-comm p c)
+    ∙ mul-mul-mul-comm b q c p
+    ∙ ap (λ (z : ℕ). b * c * z) (mul-comm q p))
+
+same-test : (x y a b : ℕ) → (x ≡ y → a ≡ b) → (a ≡ b → x ≡ y) → eqb x y ≡ eqb a b
+same-test x y a b h k = go (eqb a b) (eqb-true a b) refl
+  where
+    go : (t : Bool) → (eqb a b ≡ true → a ≡ b) → eqb a b ≡ t → eqb x y ≡ eqb a b
+    go true q e = eq-eqb x y (k (q e)) ∙ sym e
+    go false q e = ne-eqb x y (λ (z : x ≡ y). false≢true (sym e ∙ eq-eqb a b (h z))) ∙ sym e
+
+and-true : (t : Bool) → t && true ≡ t
+and-true true = refl
+and-true false = refl
+
+level-same : (s : Bool) (a b : ℕ) → level s a s b ≡ eqb a b
+level-same true a b = and-true (eqb a b)
+level-same false a b = and-true (eqb a b)
+
+-- ±a / c == ±b / d, of one sign
+pub eq-values : (x y : Float) (s : Bool) (a c b d : ℕ) → 0 < c → 0 < d → HasValue x s a c → HasValue y s b d → eq x y ≡ eqb (a * d) (b * c)
+unfolding eq
+eq-values nan y s a c b d C D v w = absurd v
+eq-values (inf t) y s a c b d C D v w = absurd v
+eq-values (fin t m e) nan s a c b d C D v w = absurd w
+eq-values (fin t m e) (inf u) s a c b d C D v w = absurd w
+eq-values (fin t m e) (fin u n g) s a c b d C D v w =
+    let M = m * up e in
+    let N = n * up g in
+    ap (λ (z : Bool). level z (M * down g) u (N * down e)) (v .0)
+    ∙ ap (λ (z : Bool). level s (M * down g) z (N * down e)) (w .0)
+    ∙ level-same s (M * down g) (N * down e)
+    ∙ same-test (M * down g) (N * down e) (a * d) (b * c)
+    (cross M N (down e) (down g) a b c d (down-pos e) (down-pos g) (v .1) (w .1))
+    (cross a b c d M N (down e) (down g) C D (sym (v .1)) (sym (w .1)))
 
 -- ---- finite values
 

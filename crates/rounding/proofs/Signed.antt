@@ -311,6 +311,12 @@ round-Le f true a b true c d B D h =
     (le-neg (round f false c d) (round f false a b) (round-mono f c d a b D B (omega arith)))
 
 -- ---- other fractions of one value
+-- over one denominator there is but one numerator
+pub value-unique : (x : Float) (s t : Bool) (a b c : ℕ) → HasValue x s a c → HasValue x t b c → a ≡ b
+value-unique nan s t a b c v w = absurd v
+value-unique (inf _) s t a b c v w = absurd v
+value-unique (fin u m e) s t a b c v w = eq-of-mul-eq-mul-right (down e) (down-pos e) a b (sym (v .1) ∙ w .1)
+
 pub value-longer : (x : Float) (s : Bool) (a c p : ℕ) → HasValue x s a c → HasValue x s (a * p) (c * p)
 value-longer nan s a c p v = v
 value-longer (inf t) s a c p v = v

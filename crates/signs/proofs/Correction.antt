@@ -10,9 +10,9 @@ use native.Mathlib.Nat.{le-of-eq}
 use native.Mathlib.Omega.{arith}
 use mathlib.Core.Bool.{Bool, true, false, not}
 use lib.IntN.{ℤ, pos, negsuc}
-use lib.Dec.{T, ltb→lt}
+use lib.Dec.{T, ltb→lt, lit<}
 use lib.Pow.{pow-pos, pow-add}
-use lib.Ieee.{Float, nan, inf, fin, Format, binary64, add, mul, div, neg, le, lt, fits, ofBits, up, down}
+use lib.Ieee.{Float, nan, inf, fin, Format, binary64, add, mul, div, neg, le, fits, ofBits, up, down}
 use lib.Ieee.Exact.{HasValue}
 use lib.Ieee.Fits.{neg-fits}
 use lib.Ieee.Positive.{positive, between}
@@ -24,16 +24,15 @@ use Rattle.rounding.proofs.Monotone.{add-mono, div-mono-left, div-mono-right}
 use Rattle.rounding.proofs.Grid.{OnGrid, on-grid, spare}
 use Rattle.rounding.proofs.Relative.{zero+, one+, quarter-, mul-le-self, part-finite, add-quarter}
 use Rattle.rounding.proofs.Error.{NearSum}
+use Rattle.rounding.proofs.Sums.{in-units, within, sum-near, difference-near, size-of-sum, size-of-difference, one-side}
 use Rattle.rounding.proofs.Range.{var, con, plus, times, eval, ieval, In, rangeTest, range}
-use Rattle.words.specs.Pick.{pick}
-use Rattle.words.specs.F64.{_⊕_, _⊖_, _⊗_, _⊘_, bits}
+use Rattle.words.specs.F64.{_⊕_, _⊖_, _⊗_, _⊘_, 0·5}
 use Rattle.pow_range.proofs.FractionRange.{slight}
-use Rattle.pow_range.proofs.Reduced.{sum-near, difference-near, size-of-difference, one-side, within-slight}
-use Rattle.pow_range.proofs.Exp2Range.{size-of-sum}
-use Rattle.pow_range.proofs.ProductSign.{eight, in-units}
+use Rattle.pow_range.proofs.ProductSign.{eight}
 use Rattle.pow_range.proofs.PowSign.{from55, to190}
 use Rattle.tgamma.specs.Tgamma.{GMHALF, dyS}
-use Rattle.signs.proofs.LanczosRange.{from-54, to184, Middle}
+use Rattle.tgamma.proofs.Regions.{from-54, to184, Middle}
+use Rattle.tgamma.proofs.Formula.{dy-either}
 
 -- ---- dy: L units are 1, E is twice the error of a sum
 
@@ -78,14 +77,14 @@ rest-slight y a b u Y s A t B vy va vb sum small =
     let k =
     left-over (P s A) (N s A) (P t B) (N t B) (P u Y) (N u Y) (P (d .0) D) (N (d .0) D) (P (r .0) R) (N (r .0) R) E
     (sum .0) (sum .1) (d .3 .0) (d .3 .1) (r .3 .0) (r .3 .1) in
-    within-slight (y ⊖ a ⊖ b) (r .0) R L (pow-pos 1074) (r .2) (tiny R E L (one-side (r .0) R (3 * E) (k .0) (k .1)) fine)
+    within (y ⊖ a ⊖ b) slight (r .0) R L 1 1024 (pow-pos 1074) (lit< tt) (r .2) (refl, refl) (tiny R E L (one-side (r .0) R (3 * E) (k .0) (k .1)) fine)
 
 gmhalf-units : (t : Bool) × (B : ℕ) × HasValue GMHALF t B (2 ^ 1074) × (B ≤ 8 * 2 ^ 1074)
 unfolding ofBits fits le neg
 gmhalf-units = in-units GMHALF eight 8 (refl, refl) tt (tt, tt)
 
 pub dy-range : (x : Float) → T (fits binary64 x) → Middle x → In (neg slight) slight (dyS x (x ⊕ GMHALF))
-unfolding dyS neg le
+unfolding neg le
 dy-range x F i =
     let L = 2 ^ 1074 in
     let v = in-units x to184 184 (refl, refl) F (le-trans (neg to184) from-54 x tt (i .0), i .1) in
@@ -94,23 +93,18 @@ dy-range x F i =
     let B = g .1 in
     let t = total A B L (v .3) (g .3) in
     let y = sum-near x GMHALF (v .0) A (g .0) B (v .2) (g .2) (t .2) in
-    either (lt GMHALF x)
+    dy-either (In (neg slight) slight) x (x ⊕ GMHALF)
     (rest-slight (x ⊕ GMHALF) x GMHALF (y .0) (y .1) (v .0) A (g .0) B (y .2) (v .2) (g .2) (y .3) (t .0))
     (rest-slight (x ⊕ GMHALF) GMHALF x (y .0) (y .1) (g .0) B (v .0) A (y .2) (g .2) (v .2) (swapped (y .0) (y .1) (v .0) A (g .0) B (2 ^ 1033) (y .3)) (t .1))
-  where
-    either : (b : Bool) → In (neg slight) slight (x ⊕ GMHALF ⊖ x ⊖ GMHALF) → In (neg slight) slight (x ⊕ GMHALF ⊖ GMHALF ⊖ x)
-        → In (neg slight) slight (pick b (x ⊕ GMHALF ⊖ x ⊖ GMHALF) (x ⊕ GMHALF ⊖ GMHALF ⊖ x))
-    either true p q = p
-    either false p q = q
 
 -- dy (GMHALF + 0.5), and the same of -dy
-factor-test : T (rangeTest binary64 (neg one+) one+ (times (var 0) (con (GMHALF ⊕ bits 0x3FE0000000000000))) [] (neg slight) slight)
+factor-test : T (rangeTest binary64 (neg one+) one+ (times (var 0) (con (GMHALF ⊕ 0·5))) [] (neg slight) slight)
 unfolding ieval add mul le neg ofBits
 factor-test = tt
 
-pub factor-range : (d : Float) → In (neg slight) slight d → In (neg one+) one+ (d ⊗ (GMHALF ⊕ bits 0x3FE0000000000000))
+pub factor-range : (d : Float) → In (neg slight) slight d → In (neg one+) one+ (d ⊗ (GMHALF ⊕ 0·5))
 unfolding eval
-factor-range d i = range binary64 (neg one+) one+ (times (var 0) (con (GMHALF ⊕ bits 0x3FE0000000000000))) [] [] (neg slight) slight d factor-test tt i
+factor-range d i = range binary64 (neg one+) one+ (times (var 0) (con (GMHALF ⊕ 0·5))) [] [] (neg slight) slight d factor-test tt i
 
 -- ---- r + c r / y, for an r above zero
 

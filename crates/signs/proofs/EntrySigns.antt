@@ -1,13 +1,16 @@
 -- THE THEOREM about the C entries themselves. r is any answer that the contract of `rvt_tgamma` allows for the argument `a .0`, a number of 64 bits, and
--- g any that the contract of `rvt_lgamma_r_sign` allows for the same. Where the argument is the pattern of a finite number that is no negative whole
--- number, r is no NaN's pattern, and its sign bit is set exactly where g is -1 (`entries-agree`), which is exactly where the argument's sign bit is set
--- and the whole part of its size is even (`entries-rule`). And the f32 entry `rvt_lgammaf_r_sign` answers what `rvt_lgamma_r_sign` answers for the
--- same number (`single-entry-agrees`), whatever it is. Assumes nothing.
-use mathlib.Core.Path.{_≡_, sym, ap, _∙_}
+-- g any that the contract of `rvt_lgamma_r_sign` allows for the same. g is 1 or -1, whatever the argument is (`entries-report`). Where that is the pattern
+-- of a finite number that is no negative whole number, r is no NaN's pattern, and its sign bit is set exactly where g is -1 (`entries-agree`), which is
+-- exactly where the argument's sign bit is set and the whole part of its size is even (`entries-rule`). At a negative whole number r is the NaN's pattern
+-- and g is 1 (`entries-at-poles`). And the f32 entry `rvt_lgammaf_r_sign` answers what `rvt_lgamma_r_sign` answers for the same number
+-- (`single-entry-agrees`), so 1 or -1 too (`single-entry-reports`), whatever it is. Assumes nothing.
+use mathlib.Core.Path.{_≡_, sym, ap, _∙_, subst}
+use mathlib.Core.Logic.{_⊎_}
 use Prim.Native.Nat.{ℕ, _%_, _^_, _<_}
-use lib.IntN.{ℤ, negsuc}
+use lib.IntN.{ℤ, pos, negsuc}
 use lib.Ieee.{Float, binary32, binary64, ofBits}
 use lib.Ieee.Bits.{ofBits-fits}
+use lib.Ieee.Fits.{fits-widens}
 use contract.Lifetimes.{Lfts}
 use Rattle.entries.proofs.rvt_tgamma.Reads as tgamma
 use Rattle.entries.proofs.rvt_lgamma_r_sign.Reads as lgamma
@@ -15,7 +18,12 @@ use Rattle.entries.proofs.rvt_lgammaf_r_sign.Reads as lgammaf
 use Rattle.lgamma.specs.Lgamma64.{lgammaS}
 use Rattle.lgammaf.proofs.SameSign.{same-sign}
 use Rattle.signs.specs.Pattern.{signBit, FiniteBits, NanBits, wholePartBits, NegativeWholeBits}
-use Rattle.signs.proofs.PatternSigns.{no-nan-bits, same-sign-bits, sign-rule-bits}
+use Rattle.signs.proofs.Signs.{reports}
+use Rattle.signs.proofs.PatternSigns.{no-nan-bits, same-sign-bits, sign-rule-bits, at-poles-bits, reports-bits}
+
+-- g is 1 or -1
+pub entries-report : (κs : Lfts 0) (g : ℤ) (a t : _) → lgamma.Post κs a g t → (g ≡ pos 1) ⊎ (g ≡ negsuc 0)
+entries-report κs g a t q = reports-bits (a .0) g q
 
 -- 1 and 2. r is no NaN's pattern, and its sign bit is set exactly where g is -1
 pub entries-agree : (κs : Lfts 0) (r : ℕ) (g : ℤ) (a s t : _) → tgamma.Post κs a r s → lgamma.Post κs a g t
@@ -30,8 +38,19 @@ pub entries-rule : (κs : Lfts 0) (r : ℕ) (a s : _) → tgamma.Post κs a r s
     × ((signBit (a .0) ≡ 1) × (wholePartBits (a .0) % 2 ≡ 0) → signBit r ≡ 1)
 entries-rule κs r a s p l f w = sign-rule-bits (a .0) r l f w p
 
+-- at a negative whole number
+pub entries-at-poles : (κs : Lfts 0) (r : ℕ) (g : ℤ) (a s t : _) → tgamma.Post κs a r s → lgamma.Post κs a g t
+    → FiniteBits (a .0) → NegativeWholeBits (a .0) → (r ≡ 0x7FF8000000000000) × (g ≡ pos 1)
+entries-at-poles κs r g a s t p q f w = at-poles-bits (a .0) r g f w p q
+
 -- f32: g is an answer of `rvt_lgammaf_r_sign`, h one of `rvt_lgamma_r_sign`, and the two patterns are those of one value
 pub single-entry-agrees : (κs : Lfts 0) (g h : ℤ) (a s b t : _) → lgammaf.Post κs a g s → lgamma.Post κs b h t
     → ofBits binary32 (a .0) ≡ ofBits binary64 (b .0) → g ≡ h
 single-entry-agrees κs g h a s b t p q e =
     p ∙ same-sign (ofBits binary32 (a .0)) (ofBits-fits binary32 (a .0)) ∙ ap (λ (x : Float). lgammaS x .sign) e ∙ sym q
+
+pub single-entry-reports : (κs : Lfts 0) (g : ℤ) (a s : _) → lgammaf.Post κs a g s → (g ≡ pos 1) ⊎ (g ≡ negsuc 0)
+single-entry-reports κs g a s p =
+    let x = ofBits binary32 (a .0) in
+    let F = ofBits-fits binary32 (a .0) in
+    subst (λ (z : ℤ). (z ≡ pos 1) ⊎ (z ≡ negsuc 0)) (sym (p ∙ same-sign x F)) (reports x (fits-widens x F))

@@ -16,12 +16,14 @@ use Rattle.rounding.proofs.Signed.{Signed, value-finite, le-neg, round-signed, 
 use Rattle.rounding.proofs.Fraction.{unlike-false, mul-is}
 use Rattle.rounding.proofs.Odd.{neg-neg}
 use Rattle.rounding.proofs.Range.{In}
-use Rattle.words.specs.F64.{_⊕_, _⊖_, _⊗_, _⊘_, bits}
+use Rattle.words.specs.F64.{_⊕_, _⊗_, _⊘_, 0·5}
 use Rattle.pow.specs.Pow.{powS}
 use Rattle.pow_range.proofs.FractionRange.{slight}
 use Rattle.pow_range.proofs.PowSign.{from55, to190, pow-plus}
 use Rattle.tgamma.specs.Tgamma.{GMHALF, dyS, lastS}
-use Rattle.signs.proofs.LanczosRange.{to184, Middle, y-range, z-range, exponent-range}
+use Rattle.tgamma.proofs.Regions.{to184, Middle}
+use Rattle.tgamma.proofs.Formula.{yOf, zOf, last-is}
+use Rattle.signs.proofs.LanczosRange.{y-range, z-range, exponent-range}
 use Rattle.signs.proofs.Correction.{Sized, Nonzero, dy-range, factor-range, correction}
 
 -- ---- products with a factor that carries no minus sign
@@ -81,24 +83,24 @@ last-line f s (fin t m e) z h p = subst (λ (b : Bool). Signed b (mul f (mul f (
 -- ---- lastS
 last-signed : (s : Bool) (y d z r : Float) → T (fits binary64 y) → In from55 to190 y → In (neg slight) slight d → In (neg to184) to184 z
     → T (fits binary64 r) → Sized s r → Signed s (lastS y d z r)
-unfolding lastS
 last-signed s y d z r Y i j k F h =
-    let c = d ⊗ (GMHALF ⊕ bits 0x3FE0000000000000) in
-    let x = bits 0x3FE0000000000000 ⊗ z in
-    last-line binary64 s (r ⊕ c ⊗ r ⊘ y) (powS y x) (correction s r c y F h (factor-range d j) i)
-    (pow-plus y x Y (mul-fits binary64 (bits 0x3FE0000000000000) z) i (exponent-range z k))
+    let c = d ⊗ (GMHALF ⊕ 0·5) in
+    let x = 0·5 ⊗ z in
+    subst (Signed s) (sym (last-is y d z r))
+    (last-line binary64 s (r ⊕ c ⊗ r ⊘ y) (powS y x) (correction s r c y F h (factor-range d j) i)
+    (pow-plus y x Y (mul-fits binary64 0·5 z) i (exponent-range z k)))
 
 -- the negative of what lies from -b to b does so too
 neg-in : (b x : Float) → In (neg b) b x → In (neg b) b (neg x)
 neg-in b x i = (le-neg x b (i .1), subst (λ (z : Float). T (le (neg x) z)) (neg-neg b) (le-neg (neg b) x (i .0)))
 
 pub last-keeps : (x : Float) → T (fits binary64 x) → Middle x → (s : Bool) (r : Float) → T (fits binary64 r) → Sized s r
-    → let y = x ⊕ GMHALF in let dy = dyS x y in let z = x ⊖ bits 0x3FE0000000000000 in
-    Signed s (lastS y dy z r) × Signed s (lastS y (neg dy) (neg z) r)
+    → let dy = dyS x (yOf x) in
+    Signed s (lastS (yOf x) dy (zOf x) r) × Signed s (lastS (yOf x) (neg dy) (neg (zOf x)) r)
 last-keeps x X i s r F h =
-    let y = x ⊕ GMHALF in
+    let y = yOf x in
     let dy = dyS x y in
-    let z = x ⊖ bits 0x3FE0000000000000 in
+    let z = zOf x in
     let Y = add-fits binary64 x GMHALF in
     let j = y-range x i in
     let k = dy-range x X i in

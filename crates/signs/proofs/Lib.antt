@@ -9,14 +9,10 @@ pub mod LastLine
 pub mod Positive
 -- Reflection: the quotient of the reflection, its sign and its size
 pub mod Reflection
--- FloorTests: the test x == floor(x) by the value of x
-pub mod FloorTests
--- Vanished: the zeros from -184 down
-pub mod Vanished
--- Regions: the regions other than the Lanczos formula, and what is left for that
-pub mod Regions
--- Negative: the negative numbers that are not whole
+-- Negative: the formula for a negative x that is no whole number
 pub mod Negative
+-- Regions: tgamma's sign, whichever formula gives the answer
+pub mod Regions
 -- Cases: tgamma and lgamma_r together, by the sign and the whole part of x
 pub mod Cases
 -- Signs: THE THEOREM, of values

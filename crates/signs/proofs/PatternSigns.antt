@@ -20,7 +20,7 @@ use Rattle.lgamma.specs.Lgamma64.{lgammaS}
 use Rattle.tgamma.specs.Tgamma.{tgammaS}
 use Rattle.signs.specs.Value.{NegativeWhole}
 use Rattle.signs.specs.Pattern.{signBit, exponent, fraction, FiniteBits, NanBits, wholePartBits, NegativeWholeBits}
-use Rattle.signs.proofs.Cases.{tgamma-fits}
+use Rattle.tgamma.proofs.Fits.{tgamma-fits}
 use Rattle.signs.proofs.Fields.{pattern-same}
 use Rattle.signs.proofs.Signs.{no-nan, same-sign, sign-rule, reports, at-poles}
 

@@ -12,13 +12,14 @@ use Rattle.rounding.proofs.Signed.{le-neg}
 use Rattle.rounding.proofs.Odd.{neg-neg}
 use Rattle.rounding.proofs.Interval.{Interval, some}
 use Rattle.rounding.proofs.Range.{Expr, var, con, times, over, eval, ieval, In, Env, rangeTest, range}
-use Rattle.words.specs.F64.{_⊗_, _⊘_}
 use Rattle.sinpi.specs.Sinpi.{sinpiS}
 use Rattle.sinpi.proofs.SizeLaws as Size
 use Rattle.sinpi.proofs.SizeLaws.{sinpi-size}
 use Rattle.trig.proofs.CosineRange.{two}
 use Rattle.tgamma.specs.Tgamma.{MINUS·PI}
-use Rattle.signs.proofs.LanczosRange.{from-54, to184, over-340, under100, Middle}
+use Rattle.tgamma.proofs.Regions.{from-54, to184, Middle}
+use Rattle.tgamma.proofs.Formula.{quotient}
+use Rattle.signs.proofs.LanczosRange.{over-340, under100}
 use Rattle.signs.proofs.Correction.{small, large, Sized}
 
 -- r from 2 ^ -340 to 2 ^ 100
@@ -30,10 +31,6 @@ back : (a b x : Float) → In a b (neg x) → In (neg b) (neg a) x
 back a b x i = subst (In (neg b) (neg a)) (neg-neg x) (le-neg (neg x) b (i .1), le-neg a (neg x) (i .0))
 
 -- ---- the quotient
-
--- -PI / (v x r)
-abbrev pub quotient : Float → Float → Float → Float
-quotient v x r = MINUS·PI ⊘ (v ⊗ x ⊗ r)
 
 quotE : Expr
 quotE = over (con MINUS·PI) (times (times (var 0) (var 1)) (var 2))

@@ -17,7 +17,7 @@ use Rattle.words.specs.Bits.{signS}
 use Rattle.lgamma.specs.Plan.{Answer}
 use Rattle.lgamma.specs.Lgamma64.{lgammaS}
 use Rattle.lgamma.proofs.SignLaw.{at-pole}
-use Rattle.lgamma.proofs.SpecialValues.{lgamma-nan, lgamma-infinity}
+use Rattle.lgamma.proofs.SpecialValues.{lgamma-special}
 use Rattle.tgamma.specs.Tgamma.{tgammaS}
 use Rattle.tgamma.proofs.SpecialValues.{tgamma-negative-whole}
 use Rattle.signs.specs.Value.{Finite, Minus, wholePart, NegativeWhole}
@@ -56,8 +56,8 @@ at-poles (fin true m e) F h = (tgamma-negative-whole m e F (h .1) (h .2), at-pol
 
 -- lgamma_r reports +1 or -1, and nothing else, for every f64: the infinities, the NaN and the negative whole numbers included
 pub reports : (x : Float) → T (fits binary64 x) → (lgammaS x .sign ≡ pos 1) ⊎ (lgammaS x .sign ≡ negsuc 0)
-reports nan F = inl (ap (λ (a : Answer). a .sign) lgamma-nan)
-reports (inf s) F = inl (ap (λ (a : Answer). a .sign) (lgamma-infinity s))
+reports nan F = inl (ap (λ (a : Answer). a .sign) (lgamma-special .at-nan))
+reports (inf s) F = inl (ap (λ (a : Answer). a .sign) (lgamma-special .at-infinity s))
 reports (fin s m e) F =
     elim (decide (fin s m e)) [
       | inl h ↦ inl (ap (λ (a : Answer). a .sign) (at-poles (fin s m e) F h .1))

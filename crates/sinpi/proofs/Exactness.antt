@@ -3,26 +3,22 @@
 -- (`fold-down`, `fold-up`).
 -- L stays a variable in the arithmetic: its numeral is too long for `omega`. Assumes nothing.
 use mathlib.Core.Path.{_≡_, refl, sym, ap, _∙_, subst}
-use mathlib.Core.Logic.{inl, inr}
 use Prim.Native.Nat.{ℕ, suc, _+_, _-_, _*_, _/_, _%_, _^_, _≤_, _<_}
-use native.Mathlib.Nat.{le-of-lt, lt-of-le-of-lt, add-comm, add-mul, mul-comm, mul-assoc, mul-left-comm, one-mul, mul-sub, mul-le-mul-right, mul-le-mul-left, mul-lt-mul-of-pos-right, div-add-mod', mod-lt, mod-le, mod-eq-of-lt, add-mul-mod-self-right, div-lt-iff-lt-mul, pow-succ', le-of-mul-le-mul-right, eq-zero-or-pos}
+use native.Mathlib.Nat.{lt-of-le-of-lt, add-comm, add-mul, mul-comm, mul-assoc, mul-left-comm, one-mul, mul-sub, mul-le-mul-right, mul-le-mul-left, mul-lt-mul-of-pos-right, div-add-mod', mod-lt, mod-le, mod-eq-of-lt, add-mul-mod-self-right, div-lt-iff-lt-mul, pow-succ', le-of-mul-le-mul-right}
 use native.Mathlib.Omega.{arith}
 use mathlib.Core.Bool.{true, false}
 use lib.IntN.{pos, negsuc, natAbs}
 use lib.Pow.{pow-pos, pow-add, pow-mono}
 use lib.Dec.{lit≤}
-use lib.Ieee.{Float, nan, inf, fin, Format, binary32, binary64, prec, emax, low, up, down, round, mul, sub}
-use lib.Ieee.Fits.{down-pos, round-fits}
-use lib.Ieee.Nearest.{div-same}
+use lib.Ieee.{Float, fin, Format, binary32, binary64, prec, emax, low, mul, sub}
 use lib.Ieee.Exact.{HasValue}
-use lib.Ieee.Back.{round-whole}
-use borrow.Author.Tests.{lt-ltb}
 use lib.Ieee.Digits.{back}
 use Rattle.rounding.proofs.Signed.{value-longer}
 use Rattle.rounding.proofs.Exact.{mul-pow-exact, half-exact, sub-exact, sub-exact-neg}
 use Rattle.words.specs.Floor.{floorS}
 use Rattle.words.specs.Whole.{wholeS}
-use Rattle.words.proofs.FloorLaws.{stays, falls}
+use Rattle.words.proofs.FloorValues.{floor-plus}
+use Rattle.words.proofs.WholeLaws.{whole-value}
 
 -- ---- numbers
 pub mod-unique : (n k M r : ℕ) → n ≡ r + k * M → r < M → n % M ≡ r
@@ -46,32 +42,6 @@ part-le a b r h = omega arith
 
 sub-le : (a b : ℕ) → a - b ≤ a
 sub-le a b = omega arith
-
--- ---- floor and the whole part of a value A / L
-
-floor-value : (f : Format) (x : Float) (A L : ℕ) → 0 < L → HasValue x false A L → A / L < 2 ^ prec f → HasValue (floorS f x) false (A / L * L) L
-floor-value f x A L l v h =
-    elim (eq-zero-or-pos (A % L)) [
-      | inl z ↦ subst (λ (y : Float). HasValue y false (A / L * L) L) (stays f x false A L l v z)
-          (subst (λ (a : ℕ). HasValue x false a L) (all (A / L * L) (A % L) A (div-add-mod' A L) z) v)
-      | inr p ↦ subst (λ (y : Float). HasValue y false (A / L * L) L)
-          (falls f x (round f false (A / L) 1) false A L l v (λ (z : A % L ≡ 0). no (A % L) z p) h (round-fits f false (A / L) 1) (round-whole f false (A / L) (le-of-lt h)))
-          (subst (λ (c : ℕ). HasValue (round f false (A / L) 1) false (A / L * L) c) (one-mul L) (value-longer (round f false (A / L) 1) false (A / L) 1 L (round-whole f false (A / L) (le-of-lt h))))
-    ]
-  where
-    all : (q r a : ℕ) → q + r ≡ a → r ≡ 0 → a ≡ q
-    all q r a h z = omega arith
-
-    no : (r : ℕ) → r ≡ 0 → 0 < r → ⊥
-    no r z p = omega arith
-
-pub whole-value : (x : Float) (A L : ℕ) → 0 < L → HasValue x false A L → A / L < 2 ^ 31 → natAbs (wholeS x) ≡ A / L
-unfolding wholeS
-whole-value nan A L l v h = absurd v
-whole-value (inf t) A L l v h = absurd v
-whole-value (fin t m e) A L l v h =
-    let q = div-same (m * up e) (down e) A L (down-pos e) l (v .1) in
-    rw (v .0, q, lt-ltb (A / L) (2 ^ 31) h)
 
 -- ---- x mod 2
 abbrev pub half+ : Float
@@ -136,6 +106,10 @@ module _ (f : Format) (x : Float) (m j : ℕ) (v : HasValue x false (m * 2 ^ suc
   rest-is : m * 2 ^ j % 2 ^ low f ≡ restOf f m j * 2 ^ j
   rest-is = ap (λ (z : ℕ). m * 2 ^ j % z) unit-is ∙ mod-scale m (2 ^ (low f - j)) (2 ^ j) (pow-pos (low f - j)) (pow-pos j)
 
+  -- a whole number n, as n * L of L units
+  in-units : (y : Float) (n L : ℕ) → HasValue y false n 1 → HasValue y false (n * L) L
+  in-units y n L v = subst (λ (c : ℕ). HasValue y false (n * L) c) (one-mul L) (value-longer y false n 1 L v)
+
   part-value : HasValue (sub f (mul f x half+) (floorS f (mul f x half+))) false (restOf f m j * 2 ^ j) (2 ^ low f)
   part-value =
       let A = m * 2 ^ j in
@@ -145,7 +119,7 @@ module _ (f : Format) (x : Float) (m j : ℕ) (v : HasValue x false (m * 2 ^ suc
       let d : A - A / L * L ≡ restOf f m j * 2 ^ j = minus-part A (A / L * L) (restOf f m j * 2 ^ j) e in
       subst (λ (z : ℕ). HasValue (sub f (mul f x half+) (floorS f (mul f x half+))) false z L) d
       (sub-exact f (mul f x half+) (floorS f (mul f x half+)) A (A / L * L) j half
-      (floor-value f (mul f x half+) A L (pow-pos (low f)) half few) (part-le A (A / L * L) (restOf f m j * 2 ^ j) e)
+      (in-units (floorS f (mul f x half+)) (A / L) L (floor-plus f (mul f x half+) A L (pow-pos (low f)) half few)) (part-le A (A / L * L) (restOf f m j * 2 ^ j) e)
       (restOf f m j, d, rest-lt, lt-of-le-of-lt (sub-le A (A / L * L)) (grow m j (2 ^ (low f + suc (emax f))) fine)))
 
   twice-rest : 2 ^ 1 * (restOf f m j * 2 ^ j) ≡ restOf f m j * 2 ^ suc j
@@ -172,9 +146,10 @@ module _ (f : Format) (x : Float) (m j : ℕ) (v : HasValue x false (m * 2 ^ suc
       → natAbs (wholeS (mul f (fin false 1 (pos 2)) (turnOf f x))) ≡ 4 * (restOf f m j * 2 ^ suc j) / 2 ^ low f
   quarter-value h =
       let Y = restOf f m j * 2 ^ suc j in
-      whole-value (mul f (fin false 1 (pos 2)) (turnOf f x)) (4 * Y) (2 ^ low f) (pow-pos (low f))
+      ap natAbs
+      (whole-value (mul f (fin false 1 (pos 2)) (turnOf f x)) false (4 * Y) (2 ^ low f) (pow-pos (low f))
       (mul-pow-exact f (turnOf f x) Y 2 (suc (suc (suc j))) turn-value (restOf f m j, four-is (restOf f m j) j, rest-lt, fourfold f Y h))
-      (eighth Y (2 ^ low f) (pow-pos (low f)) h)
+      (eighth Y (2 ^ low f) (pow-pos (low f)) h))
 
   -- ---- x mod 2 less n / 2, for a c that is n / 2
   steps : ℕ → ℕ

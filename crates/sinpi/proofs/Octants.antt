@@ -32,10 +32,6 @@ use Rattle.sinpi.proofs.Exactness.{half+, turnOf, restOf, quarter-value
 abbrev quarter+ : Float
 quarter+ = fin false 1 (negsuc 1)
 
-PI-is : PI ≡ fin false 884279719003555 (negsuc 47)
-unfolding ofBits
-PI-is = refl
-
 quarter-pi : quarter+ ⊗ PI ≡ pio4
 unfolding mul ofBits
 quarter-pi = refl

@@ -1,25 +1,26 @@
 -- x mod 2, as sinpi takes it, is not below zero, so the whole part of four times it is a natural number. Over the format. Assumes nothing.
 use mathlib.Core.Path.{_≡_, refl, sym, subst}
-use Prim.Native.Nat.{ℕ, suc, _+_, _*_, _/_, _%_, _^_, _<_, _≤_}
-use native.Mathlib.Nat.{zero-div, div-add-mod', mod-lt, mul-pos, suc-mul}
+use Prim.Native.Nat.{ℕ, _+_, _*_, _^_, _<_, _≤_}
+use native.Mathlib.Nat.{mul-pos}
 use native.Mathlib.Omega.{arith}
-use mathlib.Core.Bool.{Bool, true, false, not, cond, true≢false}
-use lib.Dec.{T, eqb, ltb}
+use mathlib.Core.Bool.{Bool, true, false, not, true≢false}
+use lib.Dec.{T}
 use lib.IntN.{ℤ, pos, negsuc, natAbs}
 use lib.Signed.{nonNeg}
 use mir.Syntax.{w32}
 use mir.Val.{SFits, toZ, ofZ}
 use mir.ValLaws.{toZ-ofZ}
-use lib.Ieee.{Float, nan, inf, fin, Format, binary32, binary64, up, down, round, neg, add, sub, mul, lt, le, fits, ofBits, ofInt}
+use lib.Ieee.{Float, nan, inf, fin, Format, binary32, binary64, up, down, round, neg, add, sub, mul, lt, le, fits, ofBits}
 use lib.Ieee.Fits.{down-pos, mul-fits}
 use borrow.Author.Tests.{ltb-false, le-ltb}
 use Rattle.rounding.proofs.Signed.{P, N, le→Le}
-use Rattle.rounding.proofs.Order.{le-refl}
 use Rattle.rounding.proofs.Fraction.{add-fraction}
 use Rattle.rounding.proofs.Relative.{zero+}
-use Rattle.rounding.proofs.Exact.{round-at-most, round-at-least}
-use Rattle.words.specs.Floor.{floorS, below}
+use Rattle.rounding.proofs.Exact.{round-at-least}
+use Rattle.words.specs.Floor.{floorS}
 use Rattle.words.specs.Whole.{wholeS}
+use Rattle.words.proofs.FloorValues.{floor-at-most, floor-inf}
+use Rattle.words.proofs.WholeLaws.{whole-natural}
 use Rattle.sinpi.specs.Sinpi.{turnS}
 use Rattle.sinpi.specs.Sinpif as Sinpif
 use Rattle.sinpi.proofs.Exactness.{half+, turnOf}
@@ -43,25 +44,6 @@ not-below (fin true m e) h =
 round-not-below : (f : Format) (u : Bool) (q c : ℕ) → 0 < c → N u q ≤ P u q → NotBelow (round f u q c)
 unfolding fits
 round-not-below f u q c C h = not-below (round f u q c) (round-at-least f u q c false 0 (pos 0) tt C (omega arith))
-
--- ---- floor
-floor-at-most : (f : Format) (s : Bool) (m : ℕ) (e : ℤ) → T (fits f (fin s m e)) → T (le (floorS f (fin s m e)) (fin s m e))
-unfolding floorS
-floor-at-most f s m e F = go (eqb (m * up e % down e) 0) s F
-  where
-    go : (b : Bool) (s : Bool) → T (fits f (fin s m e)) → T (le (cond b (fin s m e) (ofInt f (below s (m * up e / down e)))) (fin s m e))
-    go true s F = le-refl (fin s m e) tt
-    go false false F =
-        unfold ofInt in
-        round-at-most f false (m * up e / down e) 1 false m e F (omega arith)
-        (let a = div-add-mod' (m * up e) (down e) in omega arith)
-    go false true F =
-        unfold ofInt in
-        round-at-most f true (suc (m * up e / down e)) 1 true m e F (omega arith)
-        (let a = div-add-mod' (m * up e) (down e) in
-        let b = mod-lt (m * up e) (down-pos e) in
-        let c = suc-mul (m * up e / down e) (down e) in
-        omega arith)
 
 -- ---- a difference from what is at most as great, and a product
 sub-not-below : (f : Format) (s : Bool) (m : ℕ) (e : ℤ) (y : Float) → T (le y (fin s m e)) → NotBelow (sub f (fin s m e) y)
@@ -98,8 +80,8 @@ turn-of-not-below f x = mul-not-below f (pos 1) (sub f (mul f x half+) (floorS f
   where
     part : (h : Float) → T (fits f h) → NotBelow (sub f h (floorS f h))
     part nan F = unfold sub add lt in refl
-    part (inf true) F = unfold sub add neg lt floorS in refl
-    part (inf false) F = unfold sub add neg lt floorS in refl
+    part (inf true) F = rw (floor-inf f true) (unfold sub add neg lt in refl)
+    part (inf false) F = rw (floor-inf f false) (unfold sub add neg lt in refl)
     part (fin s m e) F = sub-not-below f s m e (floorS f (fin s m e)) (floor-at-most f s m e F)
 
 pub turn-not-below : (x : Float) → NotBelow (turnS x)
@@ -109,20 +91,6 @@ turn-not-below x = turn-of-not-below binary64 x
 pub turnf-not-below : (x : Float) → NotBelow (Sinpif.turnS x)
 unfolding Sinpif.turnS ofBits
 turnf-not-below x = turn-of-not-below binary32 x
-
--- ---- the whole part of what is not below zero
-whole-natural : (x : Float) → NotBelow x → wholeS x ≡ pos (natAbs (wholeS x))
-unfolding lt wholeS
-whole-natural nan h = refl
-whole-natural (inf s) h = refl
-whole-natural (fin false m e) h = go (ltb (m * up e / down e) (2 ^ 31))
-  where
-    go : (b : Bool) → cond b (pos (m * up e / down e)) (pos 0) ≡ pos (natAbs (cond b (pos (m * up e / down e)) (pos 0)))
-    go true = refl
-    go false = refl
-whole-natural (fin true m e) h =
-    let z : m * up e ≡ 0 = omega (arith, ltb-false 0 (m * up e * 1 + 0 * down e) h) in
-    rw (z, zero-div (down e)) refl
 
 -- four times a value that is not below zero has a natural number as its whole part
 pub four-natural : (f : Format) (x : Float) → NotBelow x → wholeS (mul f (fin false 1 (pos 2)) x) ≡ pos (natAbs (wholeS (mul f (fin false 1 (pos 2)) x)))

@@ -2,15 +2,15 @@
 -- (`sinpi-odd`), and +0 at every whole number (`sinpi-whole`). `by-whole-part` says the first two of any property that the
 -- kernels of the sine and of the cosine have, and over the kernels. Assumes nothing.
 use mathlib.Core.Path.{_≡_, refl, sym, ap, _∙_, subst}
-use mathlib.Core.Logic.{inl, inr}
+use mathlib.Core.Logic.{_⊎_, inl, inr}
 use Prim.Native.Nat.{ℕ, zero, suc, _+_, _-_, _*_, _/_, _%_, _^_, _≤_, _<_}
 use native.Mathlib.Nat.{suc-mul, zero-mul, mul-le-mul-right, mod-lt}
 use native.Mathlib.Omega.{arith}
-use mathlib.Core.Bool.{false}
-use lib.IntN.{ℤ, pos, negsuc}
-use lib.Dec.{T}
+use mathlib.Core.Bool.{Bool, true, false}
+use lib.IntN.{ℤ, pos, negsuc, natAbs}
+use lib.Dec.{T, lit<}
 use lib.Pow.{pow-pos, pow-add}
-use lib.Ieee.{Float, fin, binary64, add, sub, mul, neg, le, fits, ofInt, ofBits, low, prec, up, down}
+use lib.Ieee.{Float, fin, Format, binary32, binary64, add, sub, mul, neg, le, fits, ofInt, ofBits, low, prec, up, down}
 use lib.Ieee.Digits.{back}
 use lib.Ieee.Exact.{HasValue}
 use lib.Ieee.Fits.{down-pos}
@@ -19,15 +19,16 @@ use lib.Ieee.Positive.{positive, between}
 use Rattle.rounding.proofs.Relative.{zero+, one+, power-below}
 use Rattle.rounding.proofs.Range.{In}
 use Rattle.rounding.proofs.Grid.{OnGrid, on-grid, spare}
-use Rattle.words.specs.F64.{bits}
+use Rattle.words.specs.F64.{bits, _⊗_}
 use Rattle.words.specs.Whole.{wholeS}
+use Rattle.words.proofs.WholeLaws.{whole-value}
 use Rattle.trig.specs.KSin.{kSinS}
 use Rattle.trig.specs.KCos.{kCosS}
 use Rattle.trig.proofs.CosineRange.{half, two, cos-range}
-use Rattle.trig.proofs.SineRange.{sin-range, sin-odd}
-use Rattle.sinpi.specs.Sinpi.{turnS, quarterS, sinpiS}
+use Rattle.trig.proofs.SineRange.{sin-range, sin-odd, sin-zero}
+use Rattle.sinpi.specs.Sinpi.{PI, turnS, quarterS, sinpiS}
 use Rattle.sinpi.proofs.Exactness.{mod-scale, restOf, turn-is}
-use Rattle.sinpi.proofs.Octants.{Angle, Kernels, Apart, reduced, turn-of, sinpi-turn}
+use Rattle.sinpi.proofs.Octants.{Angle, Kernels, Apart, case, folded, reduced, turn-of, sinpi-turn}
 use Rattle.sinpi.proofs.Wholes.{even-rest, odd-rest, fraction-deep, few, no-rest, whole-turn}
 
 -- X mod L, where it is not 0, is at least 2 ^ J, and at least that below L
@@ -119,6 +120,10 @@ pub kernels64 : (Q : Float → Type 0) (u : Float) → ((r : Float) → T (fits 
 kernels64 Q u s c =
     record { sines = s; odd = λ r F a. sin-odd r F (a .0) (a .1); cosines = λ r i. c (cosine r) (cos-range r i) }
 
+pub quarter-of : (t : Float) → quarterS t ≡ (natAbs (wholeS (mul binary64 (fin false 1 (pos 2)) t)) + 1) / 2
+unfolding quarterS ofBits
+quarter-of t = refl
+
 pub sinpi-is : (x : Float) → sinpiS x ≡ reduced sine cosine x
 unfolding sinpiS ofBits
 sinpi-is x = refl
@@ -159,21 +164,38 @@ pub sinpi-odd : (m : ℕ) (e : ℤ) → T (fits binary64 (fin false m e)) → T 
     → m * up e / down e % 2 ≡ 1 → T (positive (neg (sinpiS (fin false m e))))
 sinpi-odd m e F h w = signs m e F h w .1
 
--- ---- whole numbers: x mod 2 is 0 or 1
-zero-at : (x : Float) → turnS x ≡ zero+ → sinpiS x ≡ bits 0
-unfolding sinpiS quarterS wholeS kSinS add sub mul neg ofInt ofBits
-zero-at x e = rw e refl
+-- ---- whole numbers: x mod 2 is 0 or 1, and so is n / 2
 
-one-at : (x : Float) → turnS x ≡ one+ → sinpiS x ≡ bits 0
-unfolding sinpiS quarterS wholeS kSinS add sub mul neg ofInt ofBits
-one-at x e = rw e refl
+-- four times 0, and 1, over the format
+four-zero : (f : Format) → HasValue (mul f (fin false 1 (pos 2)) zero+) false 0 1
+unfolding mul
+four-zero binary32 = (refl, refl)
+four-zero binary64 = (refl, refl)
+
+four-one : (f : Format) → HasValue (mul f (fin false 1 (pos 2)) one+) false 4 1
+unfolding mul
+four-one binary32 = (refl, refl)
+four-one binary64 = (refl, refl)
+
+-- n of such a t
+quarter-at : (f : Format) (t : Float) (d : ℕ) → HasValue (mul f (fin false 1 (pos 2)) t) false d 1 → d / 1 < 2 ^ 31
+    → (natAbs (wholeS (mul f (fin false 1 (pos 2)) t)) + 1) / 2 ≡ (d / 1 + 1) / 2
+quarter-at f t d v h = ap (λ (z : ℤ). (natAbs z + 1) / 2) (whole-value (mul f (fin false 1 (pos 2)) t) false d 1 (pow-pos 0) v h)
+
+-- so the kernel of the sine gets a zero, of which it gives +0
+pub whole-zero : (f : Format) (sine cosine : Float → Float) → ((s : Bool) → sine (fin s 0 (pos 0)) ≡ zero+)
+    → (t : Float) (n : ℕ) → n ≡ (natAbs (wholeS (mul f (fin false 1 (pos 2)) t)) + 1) / 2 → (t ≡ zero+) ⊎ (t ≡ one+)
+    → case sine cosine n (folded t n ⊗ PI) ≡ zero+
+unfolding add sub mul neg ofInt ofBits
+whole-zero f sine cosine zeros t n e (inl z) = rw (e, z, quarter-at f zero+ 0 (four-zero f) (lit< tt)) (zeros false)
+whole-zero f sine cosine zeros t n e (inr z) = rw (e, z, quarter-at f one+ 4 (four-one f) (lit< tt)) (zeros true)
 
 -- x is a whole number
 pub sinpi-whole : (m : ℕ) (e : ℤ) → T (fits binary64 (fin false m e)) → T (le least (fin false m e)) → m * up e % down e ≡ 0
     → sinpiS (fin false m e) ≡ bits 0
+unfolding ofBits
 sinpi-whole m e F h w =
     let x = fin false m e in
-    elim (whole-turn binary64 m e 70 F (from-least m e h) grid-above w) [
-      | inl z ↦ zero-at x (turn-of x ∙ z)
-      | inr z ↦ one-at x (turn-of x ∙ z)
-    ]
+    sinpi-is x
+    ∙ whole-zero binary64 sine cosine sin-zero (turnS x) (quarterS (turnS x)) (quarter-of (turnS x))
+    (rw (turn-of x) (whole-turn binary64 m e 70 F (from-least m e h) grid-above w))

@@ -2,7 +2,6 @@
 -- that is odd (`sinpif-odd`), and +0 at every whole number (`sinpif-whole`). x mod 2 is exact in f32 and in f64, so that of f32 is that of f64 (`same-turn`),
 -- and the f32 sinpi is sinpi over the kernels k_sinf and k_cosf. Assumes nothing.
 use mathlib.Core.Path.{_≡_, refl, sym, ap, _∙_, subst}
-use mathlib.Core.Logic.{inl, inr}
 use Prim.Native.Nat.{ℕ, zero, suc, _+_, _*_, _/_, _%_, _^_, _≤_, _<_}
 use native.Mathlib.Nat.{mul-comm, mul-assoc, mul-left-comm, mul-right-comm, mod-lt, mul-pos, eq-of-mul-eq-mul-right}
 use native.Mathlib.Omega.{arith}
@@ -10,31 +9,30 @@ use mathlib.Core.Bool.{false}
 use lib.IntN.{ℤ, pos, natAbs}
 use lib.Dec.{T}
 use lib.Pow.{pow-pos, pow-add, pow-mono}
-use lib.Ieee.{Float, fin, Format, binary32, binary64, add, sub, mul, neg, le, fits, ofInt, ofBits, round, low, prec, up, down}
+use lib.Ieee.{Float, fin, Format, binary32, binary64, mul, neg, le, fits, ofBits, low, prec, up, down}
 use lib.Ieee.Exact.{HasValue}
 use lib.Ieee.Fits.{down-pos, mul-fits, fits-widens}
 use lib.Ieee.Nearest.{div-same}
 use lib.Ieee.Positive.{positive}
 use Rattle.rounding.proofs.Signed.{value-shorter}
 use Rattle.rounding.proofs.Fraction.{mul-commutes}
-use Rattle.rounding.proofs.Relative.{zero+, one+, power-below}
+use Rattle.rounding.proofs.Relative.{power-below}
 use Rattle.rounding.proofs.Grid.{OnGrid, on-grid, spare}
 use Rattle.words.specs.F32 as F32
 use Rattle.words.specs.F64.{bits, _⊗_}
 use Rattle.words.specs.Whole.{wholeS}
-use Rattle.words.specs.Narrow.{narrowS}
 use Rattle.words.proofs.PatternLaws.{same-value}
 use Rattle.trig.specs.KSinf.{kSinfS}
 use Rattle.trig.specs.KCosf.{kCosfS}
 use Rattle.trig.proofs.CosinefRange.{cosf-range}
-use Rattle.trig.proofs.SinefRange.{tiny, sinf-range, sinf-odd}
+use Rattle.trig.proofs.SinefRange.{tiny, sinf-range, sinf-odd, sinf-zero}
 use Rattle.sinpi.specs.Sinpi.{PI, turnS, quarterS}
 use Rattle.sinpi.specs.Sinpif.{sinpifS}
 use Rattle.sinpi.specs.Sinpif as Sinpif
 use Rattle.sinpi.proofs.Exactness.{mod-scale, turnOf, turn-value, turn-is, quarter-value}
 use Rattle.sinpi.proofs.Octants.{Kernels, case, folded, reduced, turn-of}
 use Rattle.sinpi.proofs.Wholes.{fraction-deep, few, no-rest, whole-turn}
-use Rattle.sinpi.proofs.SignLaws.{Signs, by-whole-part, half-above}
+use Rattle.sinpi.proofs.SignLaws.{Signs, by-whole-part, half-above, quarter-of, whole-zero}
 
 -- ---- x mod 2 and the whole part of four times it, over the format, for an x of X = m * 2 ^ J units: X mod 2 L is what counts
 turns : (f : Format) (m : ℕ) (e : ℤ) (J : ℕ) → 0 < J → OnGrid f m e J → (m * 2 ^ J % 2 ^ low f ≡ 0 → ⊥)
@@ -131,10 +129,6 @@ quarterf-of : (t : Float) → Sinpif.quarterS t ≡ (natAbs (wholeS (mul binary3
 unfolding Sinpif.quarterS ofBits
 quarterf-of t = ap (λ (z : Float). (natAbs (wholeS z) + 1) / 2) (mul-commutes binary32 t (fin false 1 (pos 2)))
 
-quarter-of : (t : Float) → quarterS t ≡ (natAbs (wholeS (mul binary64 (fin false 1 (pos 2)) t)) + 1) / 2
-unfolding quarterS ofBits
-quarter-of t = refl
-
 sinpif-is : (x : Float) → sinpifS x ≡ case kSinfS kCosfS (Sinpif.quarterS (Sinpif.turnS x)) (folded (Sinpif.turnS x) (Sinpif.quarterS (Sinpif.turnS x)) ⊗ PI)
 unfolding sinpifS ofBits
 sinpif-is x = refl
@@ -180,21 +174,12 @@ pub sinpif-odd : (m : ℕ) (e : ℤ) → T (fits binary32 (fin false m e)) → T
     → m * up e / down e % 2 ≡ 1 → T (positive (neg (sinpifS (fin false m e))))
 sinpif-odd m e F h w = signs m e F h w .1
 
--- ---- whole numbers: x mod 2 is 0 or 1
-zero-at : (x : Float) → Sinpif.turnS x ≡ zero+ → sinpifS x ≡ F32.bits 0
-unfolding sinpifS Sinpif.quarterS wholeS kSinfS narrowS add sub mul neg ofInt ofBits round
-zero-at x e = rw e refl
-
-one-at : (x : Float) → Sinpif.turnS x ≡ one+ → sinpifS x ≡ F32.bits 0
-unfolding sinpifS Sinpif.quarterS wholeS kSinfS narrowS add sub mul neg ofInt ofBits round
-one-at x e = rw e refl
-
 -- x is a whole number: +0
 pub sinpif-whole : (m : ℕ) (e : ℤ) → T (fits binary32 (fin false m e)) → T (le leastf (fin false m e)) → m * up e % down e ≡ 0
     → sinpifS (fin false m e) ≡ F32.bits 0
+unfolding ofBits
 sinpif-whole m e F h w =
     let x = fin false m e in
-    elim (whole-turn binary32 m e 21 F (from-leastf m e h) grid-above w) [
-      | inl z ↦ zero-at x (turnf-of x ∙ z)
-      | inr z ↦ one-at x (turnf-of x ∙ z)
-    ]
+    sinpif-is x
+    ∙ whole-zero binary32 kSinfS kCosfS sinf-zero (Sinpif.turnS x) (Sinpif.quarterS (Sinpif.turnS x)) (quarterf-of (Sinpif.turnS x))
+    (rw (turnf-of x) (whole-turn binary32 m e 21 F (from-leastf m e h) grid-above w))

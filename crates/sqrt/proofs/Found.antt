@@ -9,21 +9,17 @@ use mathlib.Core.Bool.{Bool, true, false, not}
 use lib.IntN.{ℤ}
 use lib.Dec.{T, leb, leb→le, nleb→lt}
 use lib.Pow.{pow-add, pow-pos}
-use lib.Ieee.{Float, nan, inf, fin, binary64, up, down, fits, size}
+use lib.Ieee.{Float, fin, binary64, up, down, fits, size}
 use lib.Ieee.Digits.{size-lt, size-le, size-reaches}
 use lib.Ieee.Exact.{HasValue}
 use lib.Ieee.Fits.{down-pos}
-use lib.Ieee.Positive.{positive, positive-of-value}
 use Rattle.rounding.proofs.Grid.{OnGrid, on-grid, pow-cancel-lt}
-use Rattle.sqrt.specs.Sqrt.{sqrtS, root}
+use Rattle.sqrt.specs.Sqrt.{root}
 use Rattle.sqrt.proofs.Root.{RootIs, root-is}
 use Rattle.rounding.proofs.Signed.{value-longer}
-use Rattle.sqrt.proofs.Positive.{AtEven, at-even, even-part, odd-part, q-from, root-value}
+use Rattle.sqrt.proofs.Positive.{AtEven, at-even, even-part, odd-part}
 
 -- ---- values in units of 2 ^ -1074
-pub value-is : (x : Float) (s : Bool) (a b c : ℕ) → HasValue x s a c → HasValue x s b c → a ≡ b
-value-is (fin t m e) s a b c v w = eq-of-mul-eq-mul-right (down e) (down-pos e) a b (sym (v .1) ∙ w .1)
-
 module _ (m : ℕ) (e : ℤ) (Z : ℕ) (t : T (fits binary64 (fin false m e))) (v : HasValue (fin false m e) false Z (2 ^ 1074)) where
   on : (j : ℕ) × OnGrid binary64 m e j
   on = on-grid binary64 false m e t
@@ -152,17 +148,3 @@ found m e X t v = at (on (suc m) e X t v .0) (units (suc m) e X t v) (on (suc m)
           where
             turn : (a p q r : ℕ) → a * p * (q * r) ≡ a * q * (p * r)
             turn a p q r = omega arith
-
--- ---- the root of a positive f64 is positive, and neither a NaN nor an infinity
-pub root-positive : (x : Float) → T (fits binary64 x) → T (positive x) → T (positive (sqrtS x))
-root-positive nan t p = absurd p
-root-positive (inf s) t p = absurd p
-root-positive (fin true m e) t p = absurd p
-root-positive (fin false zero e) t p = absurd p
-root-positive (fin false (suc m) e) t p =
-    let j = on-grid binary64 false (suc m) e t in
-    let f = found m e (suc m * 2 ^ (j .0)) t (refl, j .1 .0) in
-    let k = f .h + 474 in
-    positive-of-value (sqrtS (fin false (suc m) e)) (f .q * 2 ^ k) (2 ^ 1074)
-    (root-value (f .A) (f .h) (f .q) (f .lo) (f .hi) (f .small) (f .near .0) (f .near .1) (fin false (suc m) e) (f .value) .0)
-    (mul-pos (lt-of-lt-of-le (pow-pos 52) (q-from (f .A) (f .h) (f .q) (f .lo) (f .hi) (f .small) (f .near .0) (f .near .1))) (pow-pos k))

@@ -7,7 +7,6 @@ use native.Mathlib.Nat.{le-trans, le-of-eq, le-of-lt, lt-of-lt-of-le, lt-of-le-o
 use native.Mathlib.Omega.{arith}
 use mathlib.Core.Bool.{Bool, true, false, not}
 use lib.Dec.{T, leb, leb→le, nleb→lt}
-use Rattle.sqrt.proofs.Positive.{long}
 
 module _ (M U q B S Y Z : ℕ) (U-pos : 0 < U) (s : S ≡ M * (U * U)) (y : Y ≡ q * U) (big : B ≤ q) (full : B * B ≤ M) (below : q * q < M + q) (above : M ≤ q * q + q) (grid : B * U ≤ Z → (w : ℕ) × (Z ≡ w * U)) where
   square : 0 < U * U

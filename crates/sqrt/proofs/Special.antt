@@ -8,12 +8,9 @@ use lib.IntN.{ℤ, pos}
 use lib.Dec.{T}
 use lib.Ieee.{Float, nan, inf, fin, binary64, up, down, size, hid, top, ofBits, toBits, fits}
 use lib.Ieee.Bits.{ofBits-toBits}
-use lib.Ieee.Fits.{nan-fits, inf-fits}
 use Rattle.rounding.proofs.BitOrder.{toBits-under}
-use Rattle.words.specs.Fabs.{fabsS}
-use Rattle.words.proofs.PatternLaws.{size-pattern}
+use Rattle.words.proofs.PatternLaws.{size-pattern, fabs-fin}
 use Rattle.sqrt.specs.Sqrt.{sqrtS}
-use Rattle.sqrt.proofs.Positive.{positive-fits}
 
 abbrev endless : ℕ
 endless = 0x7FF0000000000000
@@ -36,8 +33,8 @@ zero-bits s e =
     sign false = refl
 
 not-zero : (s : Bool) (m : ℕ) (e : ℤ) → fits binary64 (fin s (suc m) e) ≡ true → toBits binary64 (fin s (suc m) e) % 2 ^ 63 ≡ 0 → ⊥
-unfolding fabsS ofBits
-not-zero s m e f h = clash (sym (size-pattern binary64 (fin s (suc m) e) f) ∙ ap (ofBits binary64) h)
+unfolding ofBits
+not-zero s m e f h = clash (sym (fabs-fin s (suc m) e) ∙ sym (size-pattern binary64 (fin s (suc m) e) f) ∙ ap (ofBits binary64) h)
   where
     clash : fin false (suc m) e ≡ fin false 0 (pos 0) → ⊥
     clash q = let z : suc m ≡ 0 = cc in omega arith
@@ -69,13 +66,3 @@ no-root (fin false (suc m) e) f n h = absurd (lt-irrefl endless (lt-trans h (toB
 -- ---- the root is worked out of the bits, and x has them
 pub of-own-bits : (x : Float) → fits binary64 x ≡ true → sqrtS (ofBits binary64 (toBits binary64 x)) ≡ sqrtS x
 of-own-bits x f = ap sqrtS (ofBits-toBits binary64 x (subst T (sym f) tt))
-
--- ---- an f64 has an f64 for its root
-pub sqrt-fits : (x : Float) → T (fits binary64 x) → T (fits binary64 (sqrtS x))
-unfolding sqrtS
-sqrt-fits nan t = nan-fits binary64
-sqrt-fits (inf true) t = nan-fits binary64
-sqrt-fits (inf false) t = inf-fits binary64 false
-sqrt-fits (fin s zero e) t = t
-sqrt-fits (fin true (suc m) e) t = nan-fits binary64
-sqrt-fits (fin false (suc m) e) t = positive-fits m e

@@ -1,5 +1,5 @@
 -- Narrowing to f32 never crosses a value of f32 (`narrow-in`), and moves a value of 2 ^ -143 or more by a 128th at most (`narrow-near`). Assumes nothing.
-use mathlib.Core.Path.{sym, subst}
+use mathlib.Core.Path.{refl, sym, subst}
 use Prim.Native.Nat.{ℕ, _*_, _^_, _≤_, _<_}
 use mathlib.Core.Bool.{Bool, false}
 use lib.IntN.{ℤ}
@@ -25,7 +25,7 @@ narrow-in x s m e t n d F G i = go x (between-finite (fin s m e) x (fin t n d) t
     go nan X i = absurd X
     go (inf u) X i = absurd X
     go (fin u k c) X i =
-        unfold narrowS in (
+        rw (narrow-value (fin u k c) u (k * up c) (down c) (down-pos c) (refl, refl)) (
           round-at-least binary32 u (k * up c) (down c) s m e F (down-pos c) (le→Le s m e u k c (i .0)),
           round-at-most binary32 u (k * up c) (down c) t n d G (down-pos c) (le→Le u k c t n d (i .1)),
         )

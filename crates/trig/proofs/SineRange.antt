@@ -1,5 +1,5 @@
 -- k_sin with no tail, for sizes up to the f64 nearest pi/4: of an x above zero it lies from half of x to x (`sin-range`); of a -x it
--- is the negative of that (`sin-odd`, `sin-range-minus`); of either zero it is +0 (`sin-zero`).
+-- is the negative of that (`sin-odd`); of either zero it is +0 (`sin-zero`).
 -- k_sin is x + v * c with v = x * x * x and c = S1 + z * r. Intervals bound c by -1/4 and 0, so v * c lies from -x/4 to 0; up to 2 ^ -500
 -- it is a zero. Assumes nothing.
 use mathlib.Core.Path.{_≡_, refl, sym, ap, _∙_, subst}
@@ -10,15 +10,15 @@ use mathlib.Core.Bool.{Bool, true, false, not}
 use lib.IntN.{ℤ, pos, negsuc}
 use lib.Dec.{T, ltb→lt}
 use lib.Ieee.{Float, nan, inf, fin, binary64, add, mul, neg, le, fits, ofBits}
-use lib.Ieee.Fits.{neg-fits, mul-fits}
+use lib.Ieee.Fits.{mul-fits}
 use lib.Ieee.Positive.{positive}
-use Rattle.rounding.proofs.Signed.{Signed, finite-shape, round-signed, le-neg}
+use Rattle.rounding.proofs.Signed.{Signed, finite-shape, round-signed}
 use Rattle.rounding.proofs.Order.{le-refl, le-trans, le-total, between-finite}
 use Rattle.rounding.proofs.Fraction.{mul-is}
 use Rattle.rounding.proofs.Grid.{on-grid, spare}
 use Rattle.rounding.proofs.Relative.{zero+, one+, part-, quarter-, zero-le, power-below, mul-le-self, mul-part, part-finite}
 use Rattle.rounding.proofs.Relative.{FromHalf, add-quarter, add-nothing}
-use Rattle.rounding.proofs.Odd.{neg-neg, mul-neg, mul-neg-right, mul-neg-both, add-odd}
+use Rattle.rounding.proofs.Odd.{mul-neg, mul-neg-right, mul-neg-both, add-odd}
 use Rattle.rounding.proofs.Range.{Expr, var, con, plus, times, share, eval, ieval, In, rangeTest, range}
 use Rattle.words.specs.F64.{_⊕_, _⊗_, bits}
 use Rattle.trig.specs.KSin.{S1, S2, S3, S4, S5, S6, kSinS}
@@ -167,23 +167,6 @@ odd-where x p =
 pub sin-odd : (x : Float) → T (fits binary64 x) → T (positive x) → T (le x pio4)
     → kSinS (neg x) (bits 0) (pos 0) ≡ neg (kSinS x (bits 0) (pos 0))
 sin-odd x F p hi = odd-where x (sin-range x F p hi .2)
-
--- what an odd function has at -x it has at x, turned
-pub turned : (D : Float → Type 0) (R : Float → Float → Type 0) (k : Float → Float) → ((y : Float) → D y → R y (k y))
-    → ((y : Float) → D y → k (neg y) ≡ neg (k y)) → (x : Float) → D (neg x) → R (neg x) (neg (k x))
-turned D R k holds odd x d =
-    let e : k x ≡ neg (k (neg x)) = ap k (sym (neg-neg x)) ∙ odd (neg x) d in
-    subst (R (neg x)) (sym (ap neg e ∙ neg-neg (k (neg x)))) (holds (neg x) d)
-
-pub under-pio4 : (x : Float) → T (le (neg pio4) x) → T (le (neg x) pio4)
-under-pio4 x lo = subst (λ (u : Float). T (le (neg x) u)) (neg-neg pio4) (le-neg (neg pio4) x lo)
-
--- for an x below zero its negative lies from half of -x to -x
-pub sin-range-minus : (x : Float) → T (fits binary64 x) → T (positive (neg x)) → T (le (neg pio4) x)
-    → FromHalf binary64 (neg x) (neg (kSinS x (bits 0) (pos 0)))
-sin-range-minus x F p lo =
-    turned (λ (y : Float). T (fits binary64 y) × T (positive y) × T (le y pio4)) (FromHalf binary64) sin
-    (λ y d. sin-range y (d .0) (d .1) (d .2)) (λ y d. sin-odd y (d .0) (d .1) (d .2)) x (neg-fits binary64 x F, p, under-pio4 x lo)
 
 -- of either zero it is +0
 pub sin-zero : (s : Bool) → kSinS (fin s 0 (pos 0)) (bits 0) (pos 0) ≡ bits 0

@@ -1,5 +1,5 @@
 -- k_sinf for sizes from 2 ^ -100 to the f64 nearest pi/4: of an x above zero it lies from half of x to twice x (`sinf-range`); of a -x it is the negative of
--- that (`sinf-odd`, `sinf-range-minus`); of either zero it is +0 (`sinf-zero`).
+-- that (`sinf-odd`); of either zero it is +0 (`sinf-zero`).
 -- What is narrowed is x + t + u, t from -x/4 to 0 and u from -x/16 to 0. In units of 2 ^ -1074 it is worked out with the errors of its two sums, each at most
 -- a 64th of x, and narrowing moves it by a 128th. Assumes nothing.
 use mathlib.Core.Path.{_≡_, refl, sym, ap, _∙_, subst}
@@ -33,7 +33,7 @@ use Rattle.words.specs.Narrow.{narrowS}
 use Rattle.words.proofs.NarrowLaws.{narrow-value, narrow-neg}
 use Rattle.trig.specs.KSinf.{S1, S2, S3, S4, kSinfS}
 use Rattle.trig.proofs.CosineRange.{pio4}
-use Rattle.trig.proofs.SineRange.{mul-plus, square-range, times-under, product-range, turned}
+use Rattle.trig.proofs.SineRange.{mul-plus, square-range, times-under, product-range}
 use Rattle.trig.proofs.Narrowing.{narrow-in, narrow-near}
 
 -- ---- the two factors, in z
@@ -316,12 +316,12 @@ sinf-odd x a =
     ∙ narrow-neg (wide x)
     ∙ ap neg (sym (sinf-is x))
 
--- for an x below zero its negative lies from half of -x to twice -x
-pub sinf-range-minus : (x : Float) → Angle (neg x) → HalfToTwice (neg x) (neg (kSinfS x))
-sinf-range-minus x a = turned Angle HalfToTwice kSinfS sinf-range sinf-odd x a
-
 -- of either zero it is +0
-pub sinf-zero : (s : Bool) → kSinfS (fin s 0 (pos 0)) ≡ fin false 0 (pos 0)
-unfolding kSinfS narrowS mul add ofBits round
-sinf-zero true = refl
-sinf-zero false = refl
+wide-zero : (s : Bool) → wide (fin s 0 (pos 0)) ≡ zero+
+unfolding eval mul add ofBits
+wide-zero true = refl
+wide-zero false = refl
+
+pub sinf-zero : (s : Bool) → kSinfS (fin s 0 (pos 0)) ≡ zero+
+unfolding round
+sinf-zero s = sinf-is (fin s 0 (pos 0)) ∙ ap narrowS (wide-zero s) ∙ narrow-value zero+ false 0 1 (pow-pos 0) (refl, refl)

@@ -1,70 +1,68 @@
--- From a cut on the size to a cut on the bits, and back. A finite x has the bits b without the sign; a cut is the value with
+-- From a cut on the size to a cut on the bits, and back. A finite x = ±(m * 2 ^ e) has the bits b without the sign; a cut is the value with
 -- the bits c, below the infinity's.
+--   `size-under`: b is below the infinity's bits;
 --   `bits-from`, `bits-upto`: a size from the cut on, or up to it, has b from c on, or up to c;
---   `from-bits`, `upto-bits`: and back; these four in either format;
---   `word-from`, `word-upto`, `from-word`, `upto-word`: the same four for the size word of an f64, which is b's upper half;
+--   `from-bits`, `upto-bits`: and back; these five in either format;
+--   `word-under`, `word-from`, `word-upto`, `from-word`, `upto-word`: the same five for the size word of an f64, which is b's upper half;
 --   `sign-of`: the sign bit.
 -- Assumes nothing.
-use mathlib.Core.Path.{_≡_}
+use mathlib.Core.Path.{_≡_, _∙_}
 use Prim.Native.Nat.{ℕ, _*_, _/_, _%_, _^_, _<_, _≤_}
 use native.Mathlib.Nat.{div-eq-of-lt}
 use native.Mathlib.Omega.{arith}
 use mathlib.Core.Bool.{Bool, true, false, cond}
 use lib.IntN.{ℤ}
 use lib.Dec.{T}
-use lib.Ieee.{Float, nan, inf, fin, Format, binary32, binary64, top, toBits, ofBits, le, fits}
+use lib.Ieee.{fin, Format, binary32, binary64, top, toBits, ofBits, le, fits}
 use lib.Ieee.Bits.{is-true}
-use lib.Ieee.Scale.{finite}
 use Rattle.rounding.proofs.BitOrder.{endless, under-top, bits-le, le-bits, toBits-under, toBits-neg}
 use Rattle.words.specs.Bits.{signS, sizeWordS}
-use Rattle.words.specs.Fabs.{fabsS}
-use Rattle.words.proofs.PatternLaws.{fits-any-sign, unsigned-rest, size-pattern}
-
-rest-under : (f : Format) (x : Float) → T (fits f x) → T (finite x) → toBits f x % top f < endless f
-rest-under f nan F X = absurd X
-rest-under f (inf s) F X = absurd X
-rest-under f (fin s m e) F X =
-    let F' = fits-any-sign f s false m e F in
-    rw (unsigned-rest f s m e F') (toBits-under f m e F')
+use Rattle.words.proofs.PatternLaws.{fits-any-sign, unsigned-rest, size-pattern, fabs-fin}
 
 -- ---- the bits without the sign, in either format
-module _ (f : Format) (x : Float) (F : T (fits f x)) (X : T (finite x)) where
-  size-is : ofBits f (toBits f x % top f) ≡ fabsS x
-  size-is = size-pattern f x (is-true (fits f x) F)
+module _ (f : Format) (s : Bool) (m : ℕ) (e : ℤ) (F : T (fits f (fin s m e))) where
+  pub size-under : toBits f (fin s m e) % top f < endless f
+  size-under = let G = fits-any-sign f s false m e F in rw (unsigned-rest f s m e G) (toBits-under f m e G)
+
+  size-is : ofBits f (toBits f (fin s m e) % top f) ≡ fin false m e
+  size-is = size-pattern f (fin s m e) (is-true (fits f (fin s m e)) F) ∙ fabs-fin s m e
 
   -- a size from the cut on has its bits from c on
-  pub bits-from : (c : ℕ) → c < endless f → T (le (ofBits f c) (fabsS x)) → c ≤ toBits f x % top f
-  bits-from c C h = le-bits f c (toBits f x % top f) C (rest-under f x F X) (rw size-is h)
+  pub bits-from : (c : ℕ) → c < endless f → T (le (ofBits f c) (fin false m e)) → c ≤ toBits f (fin s m e) % top f
+  bits-from c C h = le-bits f c (toBits f (fin s m e) % top f) C size-under (rw size-is h)
 
   -- a size up to the cut has its bits up to c
-  pub bits-upto : (c : ℕ) → c < endless f → T (le (fabsS x) (ofBits f c)) → toBits f x % top f ≤ c
-  bits-upto c C h = le-bits f (toBits f x % top f) c (rest-under f x F X) C (rw size-is h)
+  pub bits-upto : (c : ℕ) → c < endless f → T (le (fin false m e) (ofBits f c)) → toBits f (fin s m e) % top f ≤ c
+  bits-upto c C h = le-bits f (toBits f (fin s m e) % top f) c size-under C (rw size-is h)
 
   -- bits from c on are those of a size from the cut on
-  pub from-bits : (c : ℕ) → c ≤ toBits f x % top f → T (le (ofBits f c) (fabsS x))
-  from-bits c h = rw (← size-is) (bits-le f c (toBits f x % top f) h (rest-under f x F X))
+  pub from-bits : (c : ℕ) → c ≤ toBits f (fin s m e) % top f → T (le (ofBits f c) (fin false m e))
+  from-bits c h = rw (← size-is) (bits-le f c (toBits f (fin s m e) % top f) h size-under)
 
   -- bits up to c are those of a size up to the cut
-  pub upto-bits : (c : ℕ) → c < endless f → toBits f x % top f ≤ c → T (le (fabsS x) (ofBits f c))
-  upto-bits c C h = rw (← size-is) (bits-le f (toBits f x % top f) c h C)
+  pub upto-bits : (c : ℕ) → c < endless f → toBits f (fin s m e) % top f ≤ c → T (le (fin false m e) (ofBits f c))
+  upto-bits c C h = rw (← size-is) (bits-le f (toBits f (fin s m e) % top f) c h C)
 
 -- ---- the size word of an f64
-module _ (x : Float) (F : T (fits binary64 x)) (X : T (finite x)) (c : ℕ) where
+module _ (s : Bool) (m : ℕ) (e : ℤ) (F : T (fits binary64 (fin s m e))) where
+  pub word-under : sizeWordS (fin s m e) < 0x7FF00000
+  word-under = omega (arith, size-under binary64 s m e F)
+
   -- a size from the cut on has its word from c's on
-  pub word-from : c < endless binary64 → T (le (ofBits binary64 c) (fabsS x)) → c / 2 ^ 32 ≤ sizeWordS x
-  word-from C h = omega (arith, bits-from binary64 x F X c C h)
+  pub word-from : (c : ℕ) → c < endless binary64 → T (le (ofBits binary64 c) (fin false m e)) → c / 2 ^ 32 ≤ sizeWordS (fin s m e)
+  word-from c C h = omega (arith, bits-from binary64 s m e F c C h)
 
   -- a size up to the cut has its word up to c's
-  pub word-upto : c < endless binary64 → T (le (fabsS x) (ofBits binary64 c)) → sizeWordS x ≤ c / 2 ^ 32
-  word-upto C h = omega (arith, bits-upto binary64 x F X c C h)
+  pub word-upto : (c : ℕ) → c < endless binary64 → T (le (fin false m e) (ofBits binary64 c)) → sizeWordS (fin s m e) ≤ c / 2 ^ 32
+  word-upto c C h = omega (arith, bits-upto binary64 s m e F c C h)
 
   -- a word from c's on, where c's lower half is 0, is that of a size from the cut on
-  pub from-word : c ≤ sizeWordS x * 2 ^ 32 → T (le (ofBits binary64 c) (fabsS x))
-  from-word h = from-bits binary64 x F X c (omega arith)
+  pub from-word : (c : ℕ) → c ≤ sizeWordS (fin s m e) * 2 ^ 32 → T (le (ofBits binary64 c) (fin false m e))
+  from-word c h = from-bits binary64 s m e F c (omega arith)
 
   -- a word below c's is that of a size up to the cut
-  pub upto-word : c < endless binary64 → sizeWordS x < c / 2 ^ 32 → T (le (fabsS x) (ofBits binary64 c))
-  upto-word C h = upto-bits binary64 x F X c C (omega arith)
+  pub upto-word : (c : ℕ) → c < endless binary64 → sizeWordS (fin s m e) < c / 2 ^ 32 → T (le (fin false m e) (ofBits binary64 c))
+  upto-word c C h = upto-bits binary64 s m e F c C (omega arith)
 
 -- ---- the sign bit: 1 with a minus sign, else 0
 pub sign-of : (f : Format) (s : Bool) (m : ℕ) (e : ℤ) → T (fits f (fin s m e)) → signS f (fin s m e) ≡ cond s 1 0

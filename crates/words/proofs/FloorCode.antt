@@ -16,7 +16,8 @@ use lib.Ieee.Exact.{HasValue}
 use borrow.Author.Tests.{le-leb, lt-leb}
 use Rattle.words.specs.Floor.{floorS}
 use Rattle.words.proofs.PatternLaws.{fieldOf, of-pattern}
-use Rattle.words.proofs.FloorLaws.{wholeFrom, sizeBelow, no-fraction, zero-stays, tiny-falls, Split, split, clear-stays, cut-positive, cut-negative}
+use Rattle.words.proofs.FloorValues.{sizeBelow}
+use Rattle.words.proofs.FloorLaws.{wholeFrom, no-fraction, zero-stays, tiny-falls, Split, split, clear-stays, cut-positive, cut-negative}
 
 -- the mask of the digits behind the point, for an exponent's field e: the Rust's SIG_MASK >> e
 abbrev pub maskOf : Format → ℕ → ℕ

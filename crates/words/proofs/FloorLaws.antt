@@ -3,68 +3,23 @@
 use mathlib.Core.Path.{_≡_, refl, sym, ap, _∙_, subst}
 use mathlib.Core.Logic.{inl, inr}
 use Prim.Native.Nat.{ℕ, zero, suc, _+_, _-_, _*_, _/_, _%_, _^_, _<_, _≤_}
-use native.Mathlib.Nat.{add-assoc, add-comm, add-zero, zero-add, div-le-self, add-le-add, le-refl, lt-suc-self, suc-mul, one-mul, mul-assoc, mul-right-comm, mul-pos, add-mul, zero-mul, zero-lt-suc, lt-irrefl, lt-trans, le-of-lt, mul-le-mul-right, mul-lt-mul-of-pos-right, lt-of-le-of-lt, eq-or-lt-of-le, div-add-mod', div-eq-of-lt, mod-eq-of-lt, mod-lt, div-lt-iff-lt-mul, add-mul-div-right, add-mul-mod-self-right}
+use native.Mathlib.Nat.{add-assoc, add-comm, add-zero, zero-add, div-le-self, add-le-add, le-refl, lt-suc-self, suc-mul, one-mul, mul-assoc, mul-right-comm, mul-pos, add-mul, lt-irrefl, lt-trans, le-of-lt, mul-le-mul-right, mul-lt-mul-of-pos-right, lt-of-le-of-lt, eq-or-lt-of-le, div-add-mod', div-eq-of-lt, mod-eq-of-lt, mod-lt, div-lt-iff-lt-mul, add-mul-div-right, add-mul-mod-self-right}
 use native.Mathlib.Omega.{arith}
 use mathlib.Core.Bool.{Bool, true, false, cond}
 use lib.Arith.{digits-lt, digits-div}
 use lib.Dec.{T, eqb, leb, lit<}
 use lib.Pow as Pow
 use lib.Pow.{pow-add, pow-pos}
-use lib.Ieee.{Float, nan, inf, fin, Format, binary32, binary64, prec, emax, low, up, down, hid, ones, top, ofFields, ofBits, ofInt, fits}
-use lib.Ieee.Back.{round-whole, whole-unique}
+use lib.Ieee.{Float, nan, inf, Format, binary32, binary64, prec, emax, low, hid, ones, top, ofFields, ofBits, fits}
 use lib.Ieee.Bits.{ofBits-fits}
 use lib.Ieee.Exact.{HasValue}
-use lib.Ieee.Fits.{down-pos, ofInt-fits}
-use lib.Ieee.Nearest.{div-same}
-use borrow.Author.Tests.{eq-eqb, ne-eqb, le-leb, lt-leb}
+use borrow.Author.Tests.{le-leb, lt-leb}
 use Rattle.rounding.proofs.BitOrder.{bitVal, hid-pos, endless, bits-open, val-lt}
 use Rattle.rounding.proofs.Grid.{pow-multiple}
 use Rattle.rounding.proofs.Signed.{value-shorter}
-use Rattle.words.specs.Floor.{floorS, below}
+use Rattle.words.specs.Floor.{floorS}
+use Rattle.words.proofs.FloorValues.{sizeBelow, stays, falls}
 use Rattle.words.proofs.PatternLaws.{weight, pattern-value, signed-value, fieldOf, rest-is, field-rest, carried}
-
--- ---- floor of an x whose size is d / w, for any such fraction
--- equal fractions leave remainders in the same proportion, so both leave none or neither does
-rests : (a b c d q : ℕ) → a / b ≡ q → c / d ≡ q → a * d ≡ c * b → a % b * d ≡ c % d * b
-rests a b c d q e f h =
-    let x : q * b * d + a % b * d ≡ a * d = sym (add-mul (q * b) (a % b) d) ∙ ap (λ (z : ℕ). z * d) (ap (λ (z : ℕ). z * b + a % b) (sym e) ∙ div-add-mod' a b) in
-    let y : q * d * b + c % d * b ≡ c * b = sym (add-mul (q * d) (c % d) b) ∙ ap (λ (z : ℕ). z * b) (ap (λ (z : ℕ). z * d + c % d) (sym f) ∙ div-add-mod' c d) in
-    let s : q * b * d ≡ q * d * b = mul-right-comm q b d in
-    omega arith
-
-both : (r t b d : ℕ) → 0 < b → 0 < d → r * d ≡ t * b → eqb r 0 ≡ eqb t 0
-both zero zero b d B D h = refl
-both zero (suc t) b d B D h = absurd (lt-irrefl 0 (subst (λ (n : ℕ). 0 < n) (sym h ∙ zero-mul d) (mul-pos (zero-lt-suc t) B)))
-both (suc r) zero b d B D h = absurd (lt-irrefl 0 (subst (λ (n : ℕ). 0 < n) (h ∙ zero-mul b) (mul-pos (zero-lt-suc r) D)))
-both (suc r) (suc t) b d B D h = ne-eqb (suc r) 0 (λ e. omega (arith, e)) ∙ sym (ne-eqb (suc t) 0 (λ e. omega (arith, e)))
-
-floor-at : (f : Format) (x : Float) (s : Bool) (d w : ℕ) → 0 < w → HasValue x s d w → floorS f x ≡ cond (eqb (d % w) 0) x (ofInt f (below s (d / w)))
-unfolding floorS
-floor-at f (fin t m e) s d w W v =
-    let q = div-same (m * up e) (down e) d w (down-pos e) W (v .1) in
-    let r = both _ _ (down e) w (down-pos e) W (rests (m * up e) (down e) d w (d / w) q refl (v .1)) in
-    ap (λ (k : Bool). cond k (fin t m e) (ofInt f (below t (m * up e / down e)))) r
-    ∙ ap (λ (k : ℕ). cond (eqb (d % w) 0) (fin t m e) (ofInt f (below t k))) q
-    ∙ ap (λ (k : Bool). cond (eqb (d % w) 0) (fin t m e) (ofInt f (below k (d / w)))) (v .0)
-
--- a whole x stays
-pub stays : (f : Format) (x : Float) (s : Bool) (d w : ℕ) → 0 < w → HasValue x s d w → d % w ≡ 0 → x ≡ floorS f x
-stays f x s d w W v h = sym (floor-at f x s d w W v ∙ rw (eq-eqb (d % w) 0 h))
-
--- the size of the whole number next below ±(q and a fraction)
-abbrev pub sizeBelow : Bool → ℕ → ℕ
-sizeBelow s q = cond s (suc q) q
-
-below-value : (f : Format) (s : Bool) (q : ℕ) → q < 2 ^ prec f → HasValue (ofInt f (below s q)) s (sizeBelow s q) 1
-unfolding ofInt
-below-value f true q h = round-whole f true (suc q) h
-below-value f false q h = round-whole f false q (le-of-lt h)
-
--- an x that is not whole falls to the y of the next size
-pub falls : (f : Format) (x y : Float) (s : Bool) (d w : ℕ) → 0 < w → HasValue x s d w → (d % w ≡ 0 → ⊥) → d / w < 2 ^ prec f → T (fits f y) → HasValue y s (sizeBelow s (d / w)) 1 → y ≡ floorS f x
-falls f x y s d w W v h l F u =
-    sym (floor-at f x s d w W v ∙ rw (ne-eqb (d % w) 0 h)
-    (whole-unique f (ofInt f (below s (d / w))) y s (sizeBelow s (d / w)) (ofInt-fits f (below s (d / w))) F (below-value f s (d / w) l) u))
 
 -- ---- no fraction possible: from the field of 2 ^ (prec - 1) on
 abbrev pub wholeFrom : Format → ℕ
@@ -153,10 +108,10 @@ module _ (f : Format) (b : ℕ) (tiny : fieldOf f b < emax f) where
   tiny-falls y h F u =
       let none : bitVal f (b % top f) / 2 ^ low f ≡ 0 = div-eq-of-lt size-lt in
       let some : 0 < bitVal f (b % top f) = subst (λ (n : ℕ). n < bitVal f (b % top f)) (zero-value f) (val-lt f 0 (b % top f) h) in
-      falls f (ofBits f b) y (leb (top f) b) (bitVal f (b % top f)) (2 ^ low f) (pow-pos (low f)) value
+      falls f (ofBits f b) (leb (top f) b) (bitVal f (b % top f)) (2 ^ low f) (pow-pos (low f)) value
       (λ e. lt-irrefl 0 (subst (λ (n : ℕ). 0 < n) (sym (mod-eq-of-lt size-lt) ∙ e) some))
       (subst (λ (n : ℕ). n < 2 ^ prec f) (sym none) (pow-pos (prec f)))
-      F
+      y F
       (subst (λ (n : ℕ). HasValue y (leb (top f) b) (sizeBelow (leb (top f) b) n) 1) (sym none) u)
 
 -- ---- a fraction still present: the last k digits, for a field x + 1 of emax or more
@@ -293,10 +248,11 @@ module _ (f : Format) (b k : ℕ) (p : Split f b k) where
   falls-to : (s : Bool) (a : ℕ) → leb (top f) b ≡ s → b ≡ weight f s + b % top f → (b % 2 ^ k ≡ 0 → ⊥) → b % hid f / 2 ^ k + a ≤ 2 ^ (p .j) → 2 ^ (p .j) + (b % hid f / 2 ^ k + a) ≡ sizeBelow s (2 ^ (p .j) + b % hid f / 2 ^ k) → ofBits f ((b / 2 ^ k + a) * 2 ^ k) ≡ floorS f (ofBits f b)
   falls-to s a g e n l z =
       let y = ofBits f ((b / 2 ^ k + a) * 2 ^ k) in
-      falls f (ofBits f b) y s (hid f + b % hid f) (2 ^ k) K-pos
+      falls f (ofBits f b) s (hid f + b % hid f) (2 ^ k) K-pos
       (subst (λ (u : Bool). HasValue (ofBits f b) u (hid f + b % hid f) (2 ^ k)) g present)
       (λ q. n (sym fraction ∙ q))
       before-lt
+      y
       (ofBits-fits f ((b / 2 ^ k + a) * 2 ^ k))
       (subst (λ (q : ℕ). HasValue y s q 1) (z ∙ ap (sizeBelow s) (sym before))
       (subst (λ (c : ℕ). HasValue (ofBits f c) s (2 ^ (p .j) + (b % hid f / 2 ^ k + a)) 1) (sym (cleared s a e)) (whole-value s (b % hid f / 2 ^ k + a) l)))

@@ -1,5 +1,5 @@
--- A bit pattern and its value, over the format: which patterns are a NaN's, what the sign bit is worth, and the pattern without it.
--- Assumes nothing.
+-- A bit pattern and its value, over the format: which patterns are a NaN's, what the sign bit is worth, and the pattern without it, which is that of the
+-- size (`size-pattern`; the size itself: `fabs-fin`, `fabs-neg`). Assumes nothing.
 use mathlib.Core.Path.{_≡_, refl, sym, ap, _∙_, subst}
 use mathlib.Core.Logic.{inl, inr}
 use Prim.Native.Nat.{ℕ, zero, suc, _+_, _-_, _*_, _/_, _%_, _^_, _<_, _≤_}
@@ -10,7 +10,7 @@ use lib.IntN.{ℤ}
 use lib.Dec.{T, leb}
 use lib.Arith.{digits-div, digits-mod}
 use lib.Pow as Pow
-use lib.Ieee.{Float, nan, inf, fin, Format, binary32, binary64, prec, low, up, down, size, hid, ones, top, toBits, ofFields, ofBits, isNan, nanBits, ne, eq, fits}
+use lib.Ieee.{Float, nan, inf, fin, Format, binary32, binary64, prec, low, up, down, size, hid, ones, top, toBits, ofFields, ofBits, isNan, nanBits, neg, ne, eq, fits}
 use lib.Ieee.Bits.{is-false, ofBits-toBits, nanBits-is, nanBits-above}
 use lib.Ieee.Compare.{differs-from-itself}
 use lib.Ieee.Exact.{HasValue}
@@ -18,6 +18,8 @@ use lib.Ieee.Fits.{down-pos}
 use lib.Ieee.Nearest.{div-same}
 use borrow.Author.Tests.{lt-ltb, le-ltb, le-leb, lt-leb, ltb-false}
 use Rattle.rounding.proofs.BitOrder.{fields-val, toBits-under, toBits-neg, scaled, bitVal, hid-pos, endless, under-top, bits-open}
+use Rattle.rounding.proofs.Cut.{cut, cut-is}
+use Rattle.words.specs.Bits.{withLowWordS, withHighWordS}
 use Rattle.words.specs.Fabs.{fabsS}
 
 -- ---- the NaN
@@ -64,6 +66,29 @@ unsigned-rest f true m e h =
     ap (λ (n : ℕ). n % top f) (toBits-neg f m e) ∙ add-mod-left (top f) _ ∙ mod-eq-of-lt (unsigned-lt f m e h)
 unsigned-rest f false m e h = mod-eq-of-lt (unsigned-lt f m e h)
 
+-- the bits of -x without the sign are those of x
+pub rest-neg : (f : Format) (x : Float) → toBits f (neg x) % top f ≡ toBits f x % top f
+unfolding neg toBits
+rest-neg f nan = refl
+rest-neg binary32 (inf true) = refl
+rest-neg binary32 (inf false) = refl
+rest-neg binary64 (inf true) = refl
+rest-neg binary64 (inf false) = refl
+rest-neg f (fin true m e) = sym (ap (λ (n : ℕ). n % top f) (toBits-neg f m e) ∙ add-mod-left (top f) (toBits f (fin false m e)))
+rest-neg f (fin false m e) = ap (λ (n : ℕ). n % top f) (toBits-neg f m e) ∙ add-mod-left (top f) (toBits f (fin false m e))
+
+-- ---- the size
+pub fabs-fin : (s : Bool) (m : ℕ) (e : ℤ) → fabsS (fin s m e) ≡ fin false m e
+unfolding fabsS
+fabs-fin s m e = refl
+
+-- that of -x is that of x
+pub fabs-neg : (x : Float) → fabsS (neg x) ≡ fabsS x
+unfolding fabsS neg
+fabs-neg nan = refl
+fabs-neg (inf s) = refl
+fabs-neg (fin s m e) = refl
+
 -- ---- the pattern without its sign bit is the size's
 nan-rest : (f : Format) → ofBits f (toBits f nan % top f) ≡ nan
 unfolding toBits ofBits
@@ -84,6 +109,14 @@ size-pattern f (inf s) q = inf-rest f s
 size-pattern f (fin s m e) q =
     let h = fits-any-sign f s false m e (subst T (sym q) tt) in
     ap (ofBits f) (unsigned-rest f s m e h) ∙ ofBits-toBits f (fin false m e) h
+
+-- ---- an f64 with one word cleared
+pub low-cleared : (x : Float) → withLowWordS x 0 ≡ cut binary64 32 x
+low-cleared x = ap (ofBits binary64) (add-zero (toBits binary64 x / 2 ^ 32 * 2 ^ 32)) ∙ sym (cut-is binary64 32 x)
+
+pub high-alone : (hi : ℕ) → withHighWordS (ofBits binary64 0) hi ≡ ofBits binary64 (hi * 2 ^ 32)
+unfolding toBits ofBits
+high-alone hi = ap (ofBits binary64) (add-zero (hi * 2 ^ 32))
 
 -- ---- the value of a pattern, in units of the format's smallest value
 -- the digits' field is the same with the sign bit and without

@@ -3,29 +3,18 @@ use mathlib.Core.Path.{_≡_, refl, sym, ap, _∙_, subst}
 use mathlib.Core.Logic.{inl, inr}
 use mathlib.Core.Bool.{Bool, true, false, cond}
 use Prim.Native.Nat.{ℕ, suc, _+_, _-_, _*_, _/_, _%_, _^_, _<_, _≤_}
-use native.Mathlib.Nat.{eq-or-lt-of-le, le-trans, le-of-eq, div-eq-of-lt, le-div-iff-mul-le, mul-le-mul-right, mul-le-mul-left, mul-div-mul-right, div-lt-iff-lt-mul, lt-of-lt-of-le}
+use native.Mathlib.Nat.{eq-or-lt-of-le, le-trans, div-eq-of-lt, le-div-iff-mul-le, mul-le-mul-right, mul-le-mul-left, mul-div-mul-right, div-lt-iff-lt-mul, lt-of-lt-of-le}
 use native.Mathlib.Omega.{arith}
-use lib.Dec.{T, eqb, leb, ltb, lit≤}
-use lib.IntN.{ℤ, pos, negℤ}
+use lib.Dec.{eqb, leb, lit≤}
+use lib.IntN.{pos}
 use lib.Pow.{pow-add, pow-pos, pow-mono}
-use lib.Ieee.{Float, nan, inf, fin, Format, binary64, up, down, hid, low, ones, top, ofFields, ofBits}
-use lib.Ieee.Exact.{HasValue}
-use lib.Ieee.Fits.{down-pos}
-use lib.Ieee.Nearest.{div-same}
+use lib.Ieee.{Float, nan, inf, Format, binary64, hid, low, ones, top, ofFields, ofBits}
 use borrow.Author.Tests.{lt-ltb, le-ltb}
 use Rattle.rounding.proofs.BitOrder.{bits-open, bitVal}
 use Rattle.words.specs.Whole.{wholeS, signed}
+use Rattle.words.proofs.WholeLaws.{small, whole-at}
 use Rattle.words.proofs.PatternLaws.{fieldOf, field-rest}
 use Rattle.words.proofs.FloorLaws.{value-at, size-lt, value}
-
--- ±q where q is below 2 ^ 31, else 0
-abbrev small : Bool → ℕ → ℤ
-small s q = cond (ltb q (2 ^ 31)) (signed s q) (pos 0)
-
-whole-at : (x : Float) (s : Bool) (d w : ℕ) → 0 < w → HasValue x s d w → wholeS x ≡ small s (d / w)
-unfolding wholeS
-whole-at (fin t m e) s d w W v =
-    ap (small t) (div-same (m * up e) (down e) d w (down-pos e) W (v .1)) ∙ ap (λ (k : Bool). small k (d / w)) (v .0)
 
 none : (s : Bool) → small s 0 ≡ pos 0
 none true = refl

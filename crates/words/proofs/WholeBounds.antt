@@ -4,20 +4,20 @@ use mathlib.Core.Path.{_≡_, refl, sym, ap, _∙_, subst}
 use Prim.Native.Nat.{ℕ, zero, suc, _+_, _*_, _/_, _^_, _<_, _≤_, zero-le}
 use native.Mathlib.Nat.{zero-div, suc-mul, div-mul-le-self, lt-div-mul-add, le-div-iff-mul-le, div-lt-iff-lt-mul}
 use native.Mathlib.Omega.{arith}
-use mathlib.Core.Bool.{Bool, true, false, not, cond}
+use mathlib.Core.Bool.{Bool, true, false}
 use lib.IntN.{ℤ, pos, negℤ}
-use lib.Dec.{T, ltb, lit<}
+use lib.Dec.{T, lit<}
 use lib.Ieee.{Float, nan, inf, fin, neg, le, up, down}
 use lib.Ieee.Exact.{HasValue}
 use lib.Ieee.Fits.{down-pos}
 use lib.Ieee.Scale.{finite}
 use lib.Pow.{pow-pos}
-use borrow.Author.Tests.{lt-ltb}
 use Rattle.rounding.proofs.Signed.{le-of-signed, signed-of-le, le-neg}
 use Rattle.rounding.proofs.Order.{between-finite}
 use Rattle.rounding.proofs.Odd.{neg-neg}
 use Rattle.rounding.proofs.Range.{In}
 use Rattle.words.specs.Whole.{signed, wholeS}
+use Rattle.words.proofs.WholeLaws.{whole-value, whole-neg}
 
 -- the whole number ±n
 abbrev pub number : Bool → ℕ → Float
@@ -44,23 +44,6 @@ pub record Minus (a b : ℕ) (x : Float) : Type 0 where
   pub reached : T (le x (number true q))
   pub short : T (le x (number true (suc q))) → ⊥
 
-whole-of : (s : Bool) (m : ℕ) (e : ℤ) → m * up e / down e < 2 ^ 31 → wholeS (fin s m e) ≡ signed s (m * up e / down e)
-unfolding wholeS
-whole-of s m e h = simp (lt-ltb (m * up e / down e) (2 ^ 31) h)
-
--- the whole part of -x is that of x, negated
-whole-neg : (x : Float) → wholeS (neg x) ≡ negℤ (wholeS x)
-unfolding wholeS neg
-whole-neg nan = refl
-whole-neg (inf s) = refl
-whole-neg (fin s m e) = go s (m * up e / down e) (ltb (m * up e / down e) (2 ^ 31))
-  where
-    go : (s : Bool) (q : ℕ) (t : Bool) → cond t (signed (not s) q) (pos 0) ≡ negℤ (cond t (signed s q) (pos 0))
-    go true zero true = refl
-    go true (suc q) true = refl
-    go false q true = refl
-    go s q false = refl
-
 -- M / D from a to b, for M from a * D to b * D
 between : (a b M D : ℕ) → 0 < D → a * D ≤ M → M ≤ b * D → (a ≤ M / D) × (M / D ≤ b)
 between a b M D d h k =
@@ -80,7 +63,7 @@ plus a b m e B h k =
     let w = between a b M D (down-pos e) h k in
     record {
       q = n;
-      is = whole-of false m e (omega arith);
+      is = whole-value (fin false m e) false M D (down-pos e) (refl, refl) (omega arith);
       from = w .0;
       upto = w .1;
       reached =
@@ -110,7 +93,7 @@ minus-zero zero b m e h =
     let part : M / D ≡ 0 = rw none (zero-div D) in
     record {
       q = 0;
-      is = whole-of true m e (rw part (lit< tt)) ∙ ap (signed true) part;
+      is = whole-value (fin true m e) true M D (down-pos e) (refl, refl) (rw part (lit< tt)) ∙ ap (signed true) part;
       from = zero-le;
       upto = zero-le;
       reached =

@@ -1,20 +1,18 @@
 -- `erff::erff` meets its contract. Assumes nothing.
 use Rattle.words.proofs.PatternLaws.{is-nan}
-use lib.Ieee.{add, sub, mul, div, ofInt, ofBits, toBits}
-use Rattle.erf.specs.Plan as Plan
-use mathlib.Core.Path.{_∙_, refl}
+use mathlib.Core.Path.{_∙_, sym}
 use lib.Ieee.{nanBits}
 use denote.Floats.{passes}
 use borrow.Author.Needs.{needs}
 use Rattle.erf.proofs.SignBit.{sign-exact}
 use Rattle.erf.proofs.ErfCode as code
 use Rattle.erff.specs.Erff.{erf32}
+use Rattle.erff.proofs.Laws32.{erff-special}
 use Rattle.erff.proofs.erff.Statement.{statement}
 use Rattle.erff.proofs.erff.Tie as tie
 
 returns : tie.Need-returns
-unfolding Plan.erfS add sub mul div ofInt ofBits toBits
-returns c = rw (is-nan (c .before .args .x) (c .if1 .taken)) refl
+returns c = rw (is-nan (c .before .args .x) (c .if1 .taken)) (sym (erff-special .erf-nan))
 
 size-bits-requires : tie.Need-size-bits-requires
 size-bits-requires c κs = search needs

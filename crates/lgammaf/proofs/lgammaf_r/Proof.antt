@@ -1,12 +1,13 @@
 -- `lgammaf::lgammaf_r` meets its contract. Assumes nothing.
-use mathlib.Core.Path.{_≡_, refl, _∙_}
+use mathlib.Core.Path.{_≡_, sym, ap, _∙_}
 use lib.IntN.{pos}
-use lib.Ieee.{Float, nan, mul, toBits}
+use lib.Ieee.{Float, nan}
 use Rattle.words.proofs.PatternLaws.{is-nan}
-use Rattle.lgamma.specs.Plan as Plan
+use Rattle.lgamma.specs.Plan.{Answer}
 use borrow.Author.Needs.{needs}
 use Rattle.lgamma.proofs.LgammaCode as code
-use Rattle.lgammaf.specs.Lgammaf.{lgamma32}
+use Rattle.lgammaf.specs.Lgammaf.{lgamma32, lgammafS}
+use Rattle.lgammaf.proofs.SpecialValues.{lgammaf-special}
 use Rattle.lgammaf.proofs.lgammaf_r.Statement.{statement}
 use Rattle.lgammaf.proofs.lgammaf_r.Tie as tie
 
@@ -14,13 +15,11 @@ answer-requires : tie.Need-answer-requires
 answer-requires c κs = search needs
 
 -- of a NaN the value is the NaN, and the sign is plus
-nan-value : (x : Float) → x ≡ nan → x ≡ Plan.lgammaS lgamma32 x .value
-unfolding Plan.lgammaS mul toBits
-nan-value x e = rw e refl
+nan-value : (x : Float) → x ≡ nan → x ≡ lgammafS x .value
+nan-value x e = rw e (sym (ap (λ (a : Answer). a .value) (lgammaf-special .at-nan)))
 
-nan-sign : (x : Float) → x ≡ nan → pos 1 ≡ Plan.lgammaS lgamma32 x .sign
-unfolding Plan.lgammaS toBits
-nan-sign x e = rw e refl
+nan-sign : (x : Float) → x ≡ nan → pos 1 ≡ lgammafS x .sign
+nan-sign x e = rw e (sym (ap (λ (a : Answer). a .sign) (lgammaf-special .at-nan)))
 
 returns : tie.Need-returns
 returns c =

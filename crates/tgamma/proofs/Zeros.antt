@@ -13,6 +13,7 @@ use lib.Ieee.{Float, fin, binary64, low, prec, emax, up, down, round, mul, eq, f
 use lib.Ieee.Exact.{HasValue, round-exact}
 use lib.Ieee.Fits.{down-pos}
 use borrow.Author.Tests.{eq-eqb, ne-eqb}
+use Rattle.rounding.proofs.Order.{eq-values}
 use Rattle.rounding.proofs.Fraction.{mul-is}
 use Rattle.rounding.proofs.Units.{mul-units}
 use Rattle.rounding.proofs.Grid.{on-grid, spare}
@@ -20,8 +21,8 @@ use Rattle.rounding.proofs.Exact.{shrink-exact}
 use Rattle.words.specs.Pick.{pick}
 use Rattle.words.specs.F64.{bits}
 use Rattle.words.specs.Floor.{floorS}
+use Rattle.words.proofs.FloorValues.{part-small, floor-part}
 use Rattle.tgamma.specs.Tgamma.{vanishedS}
-use Rattle.signs.proofs.FloorTests.{eq-values, part-small, floor-part}
 
 abbrev half+ : Float
 half+ = fin false 1 (negsuc 0)
@@ -64,18 +65,21 @@ module _ (m : ℕ) (e : ℤ) (F : T (fits binary64 (fin true m e))) (one : down 
   test-is q e' =
       let M = m * up e in
       let D = down e in
-      let small : q < 2 ^ 52 = subst (λ (k : ℕ). k < 2 ^ 52) e' (part-small true m e F broken) in
+      let small : q < 2 ^ 52 = subst (λ (k : ℕ). k < 2 ^ 52) e' (part-small binary64 true m e F broken) in
       let part : M / (D * 2) ≡ q / 2 = sym (div-div-eq-div-mul M D 2) ∙ ap (λ (k : ℕ). k / 2) e' in
       let a = subst (λ (k : ℕ). HasValue (floorS binary64 (fin true m e)) true (suc k) 1) e'
-      (floor-part (fin true m e) true M D (down-pos e) (refl, refl) broken (part-small true m e F broken)) in
+      (floor-part binary64 (fin true m e) true M D (down-pos e) (refl, refl) broken (wide (M / D) (part-small binary64 true m e F broken))) in
       let b = subst (λ (k : ℕ). HasValue (floorS binary64 (mul binary64 (fin true m e) half+)) true (suc k) 1) part
-      (floor-part (mul binary64 (fin true m e) half+) true M (D * 2) (mul-pos (down-pos e) (pow-pos 1)) half-x half-broken
-      (subst (λ (k : ℕ). k < 2 ^ 52) (sym part) (lt-of-le-of-lt (div-le-self q 2) small))) in
+      (floor-part binary64 (mul binary64 (fin true m e) half+) true M (D * 2) (mul-pos (down-pos e) (pow-pos 1)) half-x half-broken
+      (subst (λ (k : ℕ). k < 2 ^ 53) (sym part) (wide (q / 2) (lt-of-le-of-lt (div-le-self q 2) small)))) in
       eq-values (mul binary64 (floorS binary64 (fin true m e)) half+) (floorS binary64 (mul binary64 (fin true m e) half+)) true
       (suc q) 2 (suc (q / 2)) 1 (pow-pos 1) (pow-pos 0) (half-whole (floorS binary64 (fin true m e)) (suc q) (next q small) a) b
     where
       next : (q : ℕ) → q < 2 ^ 52 → suc q < 2 ^ 53
       next q h = omega arith
+
+      wide : (q : ℕ) → q < 2 ^ 52 → q < 2 ^ 53
+      wide q h = omega arith
 
   vanished-by : (q : ℕ) → m * up e / down e ≡ q → vanishedS (fin true m e) ≡ pick (eqb (suc q * 1) (suc (q / 2) * 2)) (bits 0) (bits 0x8000000000000000)
   unfolding vanishedS ofBits

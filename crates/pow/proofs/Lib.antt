@@ -1,0 +1,2 @@
+-- Courses: what pow answers at an x above 1 and a y of a size up to 2 ^ 31
+pub mod Courses
