@@ -1,8 +1,8 @@
--- A table of kinds, of any kind.
+-- A table of kinds: any list of rows.
 use Prim.Native.Nat.{ℕ}
 use mathlib.Core.List.{List, [], _∷_}
-use lib.Dec.{eqb}
-use Rattle.words.specs.Pick.{pick}
+use Rattle.words.specs.Pick.{if_then_else_}
+use Rattle.words.specs.Tests.{_=?_}
 use Rattle.replies.specs.declared.Reply.{Reply}
 
 -- a kind, how many bytes its body has (one at least), and the reply to the number that they make
@@ -18,4 +18,4 @@ noRow k = record { kind = k; width = 0; reply = λ b. record { head = 0; width =
 -- the row of a kind
 unfoldable pub rowIn : List Row → ℕ → Row
 rowIn [] k = noRow k
-rowIn (r ∷ rs) k = pick (eqb k (r .kind)) r (rowIn rs k)
+rowIn (r ∷ rs) k = if k =? r .kind then r else rowIn rs k

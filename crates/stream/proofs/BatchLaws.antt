@@ -13,9 +13,10 @@ use Rattle.kinds.proofs.ShapeLaws.{body-small}
 use Rattle.replies.specs.declared.Reply.{Reply}
 use Rattle.replies.specs.Row.{rowIn}
 use Rattle.replies.specs.Table.{table, replyS}
-use Rattle.replies.proofs.TableLaws.{row-width, reply-light, reply-whole}
+use Rattle.replies.proofs.TableLaws.{row-width, width-small, reply-light, reply-whole}
 use Rattle.stream.specs.Run.{run}
 use Rattle.stream.proofs.RoomLaws.{Light, run-easy, run-same}
+use Rattle.stream.proofs.StopLaws.{Narrow}
 use Rattle.stream.proofs.PieceLaws.{whole, pieces, Roomy, pieces-are-whole}
 
 -- the reply to the body of a record, by the code's steps: how many bytes the body has, their number, and the reply to it
@@ -31,6 +32,9 @@ answered s at w k b r h ew eb er =
 
 pub table-light : Light table
 table-light = reply-light
+
+pub table-narrow : Narrow 8 table
+table-narrow = width-small
 
 -- with room for twice the requests a batch never stops with code 3
 pub enough-room : (s : List ℕ) (room : ℕ) → 2 * length s ≤ room → run table s room .code ≤ 2

@@ -2,8 +2,8 @@
 use Prim.Native.Nat.{ℕ, zero, suc, _+_, _-_}
 use mathlib.Core.List.{List, [], _∷_, _++_}
 use lib.ListN.{length, drop}
-use lib.Dec.{eqb, ltb}
-use Rattle.words.specs.Pick.{pick}
+use Rattle.words.specs.Pick.{if_then_else_}
+use Rattle.words.specs.Tests.{_<?_, _=?_}
 use Rattle.digits.specs.Digits.{word}
 use Rattle.replies.specs.Reply.{bytesOf}
 use Rattle.replies.specs.Row.{Row, rowIn}
@@ -32,9 +32,10 @@ ahead a b = record { code = b .code; tally = a .tally ⊞ b .tally; bytes = a .b
 -- the tests in their order: a body of w bytes where `left` are there, an answer x where there is room for `room`
 abbrev pub choose : ℕ → ℕ → ℕ → List ℕ → Out
 choose w left room x =
-    pick (eqb w 0) (stop UNKNOWN)
-    (pick (ltb left w) (stop CUT)
-    (pick (ltb room (length x)) (stop FULL) (took w x)))
+    if w =? 0 then stop UNKNOWN else
+    if left <? w then stop CUT else
+    if room <? length x then stop FULL else
+    took w x
 
 -- a record whose kind has row r, over the bytes s behind the kind
 abbrev pub known : Row → List ℕ → ℕ → Out
