@@ -6,12 +6,12 @@ use native.Mathlib.Omega.{arith}
 use borrow.Author.Tests.{eq-eqb, ne-eqb}
 use lib.ListN.{length, drop, length-append, drop-of-length-le}
 use lib.Seq.{sets, sets-eq}
-use Rattle.stream.specs.Bytes.{digits}
-use Rattle.stream.specs.Kinds.{batchS}
+use Rattle.digits.specs.Digits.{digits}
+use Rattle.stream.specs.Batch.{batchS}
 use Rattle.stream.specs.Post.{Did}
 use Rattle.stream.specs.declared.Report.{Report}
-use Rattle.stream.proofs.ByteLaws.{length-digits}
-use Rattle.stream.proofs.LoopLaws.{sets-append}
+use Rattle.digits.proofs.DigitLaws.{length-digits}
+use Rattle.digits.proofs.StoreLaws.{sets-append}
 use Rattle.entries.specs.Batch.{reportOf, callS, Made}
 
 -- stores from the front to the very end
@@ -45,6 +45,6 @@ module _ (requests answers report : List ℕ) where
   made-refused h = rw (ne-eqb (length report) 24 h) (record { code = refl; answers = refl; report = refl })
 
   pub made-done : (t : Report) (a b : List ℕ) → length report ≡ 24 → Did (batchS requests answers) t 0 answers a →
-      b ≡ reportOf (t .records) (t .read) (t .written) → Made (callS requests answers report) (t .code) a b
+      b ≡ reportOf (t .tally .records) (t .tally .read) (t .tally .written) → Made (callS requests answers report) (t .code) a b
   made-done t a b h d e =
-      rw (eq-eqb (length report) 24 h) (record { code = d .code; answers = d .buffer; report = rw (← d .records, ← d .read, ← d .written) e })
+      rw (eq-eqb (length report) 24 h) (record { code = d .code; answers = d .buffer; report = rw (← d .tally) e })

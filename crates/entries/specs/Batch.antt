@@ -6,9 +6,9 @@ use lib.ListN.{length}
 use lib.Dec.{eqb}
 use lib.Seq.{sets}
 use Rattle.words.specs.Pick.{pick}
-use Rattle.stream.specs.Bytes.{digits}
+use Rattle.digits.specs.Digits.{digits}
 use Rattle.stream.specs.Run.{Out}
-use Rattle.stream.specs.Kinds.{batchS}
+use Rattle.stream.specs.Batch.{batchS}
 
 -- a call: its code, and the two buffers as it leaves them
 pub record Call : Type 0 where
@@ -21,7 +21,7 @@ unfoldable pub reportOf : ℕ → ℕ → ℕ → List ℕ
 reportOf records read written = digits 8 records ++ (digits 8 read ++ digits 8 written)
 
 abbrev pub done : Out → List ℕ → Call
-done o answers = record { code = o .code; answers = sets answers 0 (o .bytes); report = reportOf (o .records) (o .read) (length (o .bytes)) }
+done o answers = record { code = o .code; answers = sets answers 0 (o .bytes); report = reportOf (o .tally .records) (o .tally .read) (o .tally .written) }
 
 abbrev pub refused : List ℕ → List ℕ → Call
 refused answers report = record { code = 10; answers = answers; report = report }

@@ -3,30 +3,23 @@
 // include/raveltrellis.h.
 mod report;
 
-use lgamma::lgamma_r;
-use lgammaf::lgammaf_r;
 use stream::batch;
-use words::bits::bits_of;
-use words::bits::bits_of_f32;
-use words::bits::of_bits;
-use words::bits::of_bits_f32;
 ghost use mathlib.Core.Path.{_≡_};
-ghost use lib.Ieee.{binary32, binary64, ofBits};
-ghost use lib.ListN.{length};
-ghost use lib.Seq.{sets};
+ghost use lib.Ieee.{binary32, binary64};
 ghost use Rattle.tgamma.specs.Tgamma.{tgammaS};
 ghost use Rattle.lgamma.specs.Lgamma64.{lgammaS};
 ghost use Rattle.erf.specs.Erf64.{erfS, erfcS};
 ghost use Rattle.lgammaf.specs.Lgammaf.{lgammafS};
 ghost use Rattle.erff.specs.Erff.{erffS, erfcfS};
-ghost use Rattle.stream.specs.Kinds.{onBits, valueOnBits, batchS};
+ghost use Rattle.by_bits.specs.ByBits.{onBits, valueOnBits, signOnBits};
+ghost use Rattle.stream.specs.Batch.{batchS};
 ghost use Rattle.entries.specs.Post.{Reported};
 
 #[no_mangle]
 pub extern "C" fn rvt_tgamma(x: u64) -> u64
     ensures { λ r. ⌜ r ≡ onBits binary64 tgammaS x ⌝ }
 {
-    stream::by_bits::tgamma_bits(x)
+    by_bits::tgamma_bits(x)
 }
 
 // Log-gamma's value, and below it its sign, 1 or -1.
@@ -34,28 +27,28 @@ pub extern "C" fn rvt_tgamma(x: u64) -> u64
 pub extern "C" fn rvt_lgamma_r_value(x: u64) -> u64
     ensures { λ r. ⌜ r ≡ valueOnBits binary64 lgammaS x ⌝ }
 {
-    bits_of(lgamma_r(of_bits(x)).value)
+    by_bits::lgamma_r_bits(x).value
 }
 
 #[no_mangle]
 pub extern "C" fn rvt_lgamma_r_sign(x: u64) -> i32
-    ensures { λ r. ⌜ r ≡ lgammaS (ofBits binary64 x) .sign ⌝ }
+    ensures { λ r. ⌜ r ≡ signOnBits binary64 lgammaS x ⌝ }
 {
-    lgamma_r(of_bits(x)).sign
+    by_bits::lgamma_r_bits(x).sign
 }
 
 #[no_mangle]
 pub extern "C" fn rvt_erf(x: u64) -> u64
     ensures { λ r. ⌜ r ≡ onBits binary64 erfS x ⌝ }
 {
-    stream::by_bits::erf_bits(x)
+    by_bits::erf_bits(x)
 }
 
 #[no_mangle]
 pub extern "C" fn rvt_erfc(x: u64) -> u64
     ensures { λ r. ⌜ r ≡ onBits binary64 erfcS x ⌝ }
 {
-    stream::by_bits::erfc_bits(x)
+    by_bits::erfc_bits(x)
 }
 
 // The f32 functions, on the 32 bits of an f32.
@@ -63,28 +56,28 @@ pub extern "C" fn rvt_erfc(x: u64) -> u64
 pub extern "C" fn rvt_lgammaf_r_value(x: u32) -> u32
     ensures { λ r. ⌜ r ≡ valueOnBits binary32 lgammafS x ⌝ }
 {
-    bits_of_f32(lgammaf_r(of_bits_f32(x)).value)
+    by_bits::lgammaf_r_bits(x).value
 }
 
 #[no_mangle]
 pub extern "C" fn rvt_lgammaf_r_sign(x: u32) -> i32
-    ensures { λ r. ⌜ r ≡ lgammafS (ofBits binary32 x) .sign ⌝ }
+    ensures { λ r. ⌜ r ≡ signOnBits binary32 lgammafS x ⌝ }
 {
-    lgammaf_r(of_bits_f32(x)).sign
+    by_bits::lgammaf_r_bits(x).sign
 }
 
 #[no_mangle]
 pub extern "C" fn rvt_erff(x: u32) -> u32
     ensures { λ r. ⌜ r ≡ onBits binary32 erffS x ⌝ }
 {
-    stream::by_bits::erff_bits(x)
+    by_bits::erff_bits(x)
 }
 
 #[no_mangle]
 pub extern "C" fn rvt_erfcf(x: u32) -> u32
     ensures { λ r. ⌜ r ≡ onBits binary32 erfcfS x ⌝ }
 {
-    stream::by_bits::erfcf_bits(x)
+    by_bits::erfcf_bits(x)
 }
 
 // The stop code.
@@ -99,26 +92,26 @@ pub extern "C" fn rvt_batch_code(requests: &[u8], answers: &mut [u8]) -> u64
 // How many records were answered.
 #[no_mangle]
 pub extern "C" fn rvt_batch_records(requests: &[u8], answers: &mut [u8]) -> u64
-    ensures { λ r. ⌜ Reported (batchS (now (requests .entry)) (now (answers .entry))) (λ o. o .records) r (now (answers .entry)) (now (answers .exit)) ⌝ }
+    ensures { λ r. ⌜ Reported (batchS (now (requests .entry)) (now (answers .entry))) (λ o. o .tally .records) r (now (answers .entry)) (now (answers .exit)) ⌝ }
 {
-    let t = batch(requests, answers);
+    let t = batch(requests, answers).tally;
     t.records as u64
 }
 
 // How many bytes of the requests were read.
 #[no_mangle]
 pub extern "C" fn rvt_batch_read(requests: &[u8], answers: &mut [u8]) -> u64
-    ensures { λ r. ⌜ Reported (batchS (now (requests .entry)) (now (answers .entry))) (λ o. o .read) r (now (answers .entry)) (now (answers .exit)) ⌝ }
+    ensures { λ r. ⌜ Reported (batchS (now (requests .entry)) (now (answers .entry))) (λ o. o .tally .read) r (now (answers .entry)) (now (answers .exit)) ⌝ }
 {
-    let t = batch(requests, answers);
+    let t = batch(requests, answers).tally;
     t.read as u64
 }
 
 // How many bytes of the answers were written.
 #[no_mangle]
 pub extern "C" fn rvt_batch_written(requests: &[u8], answers: &mut [u8]) -> u64
-    ensures { λ r. ⌜ Reported (batchS (now (requests .entry)) (now (answers .entry))) (λ o. length (o .bytes)) r (now (answers .entry)) (now (answers .exit)) ⌝ }
+    ensures { λ r. ⌜ Reported (batchS (now (requests .entry)) (now (answers .entry))) (λ o. o .tally .written) r (now (answers .entry)) (now (answers .exit)) ⌝ }
 {
-    let t = batch(requests, answers);
+    let t = batch(requests, answers).tally;
     t.written as u64
 }

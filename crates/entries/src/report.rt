@@ -1,10 +1,8 @@
 // The batch in one call: its code, and its counts as bytes in a report that the host lends.
+use digits::put;
 use stream::batch;
 ghost use mathlib.Core.Path.{_≡_};
-ghost use Prim.Native.Nat.{_+_, _≤_};
 ghost use lib.ListN.{length};
-ghost use lib.Seq.{sets};
-ghost use Rattle.stream.specs.Bytes.{digits};
 ghost use Rattle.entries.specs.Batch.{reportOf, callS, Made};
 
 // The bytes of a report.
@@ -12,23 +10,6 @@ const LENGTH: usize = 24;
 
 // The code of a report that has another length.
 const REFUSED: u64 = 10;
-
-// Writes the `width` lowest bytes of `x` from `at` on, and answers the place after them.
-fn put(s: &mut [u8], at: usize, width: usize, x: u64) -> usize
-    requires { ⌜ at + width ≤ length (now s) ⌝ }
-    ensures { λ r. ⌜ (r ≡ at + width) × (now (s .exit) ≡ sets (now (s .entry)) at (digits width x)) ⌝ }
-{
-    let mut i = at;
-    let mut left = width;
-    let mut y = x;
-    while 0 < left {
-        s[i] = (y % 256) as u8;
-        y = y / 256;
-        i = i + 1;
-        left = left - 1;
-    }
-    i
-}
 
 // Writes a report.
 fn tell(report: &mut [u8], records: u64, read: u64, written: u64)
@@ -50,6 +31,7 @@ pub extern "C" fn rvt_batch(requests: &[u8], answers: &mut [u8], report: &mut [u
         return REFUSED;
     }
     let t = batch(requests, answers);
-    tell(report, t.records as u64, t.read as u64, t.written as u64);
+    let n = t.tally;
+    tell(report, n.records as u64, n.read as u64, n.written as u64);
     t.code as u64
 }

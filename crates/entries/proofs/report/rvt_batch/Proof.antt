@@ -27,8 +27,8 @@ same-length-2 c = search needs
 
 returns-2 : tie.Need-returns-2
 returns-2 c =
-    let a = c .before .before .before .before .before .before .before .before .before .before .before .before .before .args in
-    let did = c .before .before .before .before .before .before .before .batch in
+    let a = c .before .before .before .before .before .before .before .before .before .before .before .before .before .before .args in
+    let did = c .before .before .before .before .before .before .before .before .batch in
     let told = c .before .before .before .tell in
     made-done (a .requests .now) (a .answers .now) (a .report .now) (did .result) (did .last .1 .0) (told .last .0) (search needs) (did .ensures) (told .ensures)
 

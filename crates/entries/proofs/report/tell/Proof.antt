@@ -22,7 +22,7 @@ returns c =
     let third = c .before .before .put3 in
     let second = c .before .before .before .before .before .before .put2 in
     let first = c .before .before .before .before .before .before .before .before .before .before .put in
-    told (a .records) (a .read) (a .written) (a .report .now) (first .last .0) (second .last .0) (third .last .0) (search needs) (first .ensures .1) (second .ensures .1) (third .ensures .1)
+    told (a .records) (a .read) (a .written) (a .report .now) (first .last .0) (second .last .0) (third .last .0) (search needs) (first .ensures) (second .ensures) (third .ensures)
 
 pub tell-spec : {M : Type 1} → statement M
 tell-spec = tie.close (tie.spec put-requires put-requires-2 put-requires-3 same-length returns)
