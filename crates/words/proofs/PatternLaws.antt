@@ -3,7 +3,7 @@
 use mathlib.Core.Path.{_≡_, refl, sym, ap, _∙_, subst}
 use mathlib.Core.Logic.{inl, inr}
 use Prim.Native.Nat.{ℕ, zero, suc, _+_, _-_, _*_, _/_, _%_, _^_, _<_, _≤_}
-use native.Mathlib.Nat.{add-zero, suc-mul, pow-succ', mul-assoc, eq-or-lt-of-le, zero-add, le-add-right, mod-eq-of-lt, add-mod-left, div-lt-iff-lt-mul, mul-right-comm}
+use native.Mathlib.Nat.{add-zero, suc-mul, pow-succ', mul-assoc, eq-or-lt-of-le, zero-add, le-add-right, mod-eq-of-lt, add-mod-left, div-lt-iff-lt-mul, mul-right-comm, le-trans, mod-le}
 use native.Mathlib.Omega.{arith}
 use mathlib.Core.Bool.{Bool, true, false, not, cond}
 use lib.IntN.{ℤ}
@@ -32,6 +32,10 @@ unfolding ne eq isNan
 not-nan nan e = subst T e tt
 not-nan (inf s) e = tt
 not-nan (fin s m d) e = tt
+
+-- what keeps the NaN gives x back where x is one
+pub nan-kept : (g : Float → Float) → g nan ≡ nan → (x : Float) → ne x x ≡ true → x ≡ g x
+nan-kept g e x h = is-nan x h ∙ sym e ∙ ap g (sym (is-nan x h))
 
 pub nan-pattern : (f : Format) (x : Float) → ne x x ≡ true → ones f * hid f + hid f / 2 ≡ toBits f x
 unfolding toBits
@@ -220,3 +224,7 @@ module _ (f : Format) (x : Float) (b : ℕ) (held : fits f x ≡ true) (e : b �
   up-to-inf h =
       ltb-false (endless f) (b % top f)
       (sym (nanBits-above f b) ∙ nanBits-is f b ∙ ap isNan of-pattern ∙ is-false (isNan x) (not-nan x h))
+
+  -- nor is its size
+  pub size-number : ne x x ≡ false → T (not (nanBits f (b % top f)))
+  size-number h = pattern-not-nan f (b % top f) (le-trans (mod-le (b % top f) (top f)) (up-to-inf h))
