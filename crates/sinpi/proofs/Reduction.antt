@@ -74,15 +74,16 @@ mul-not-below f d (fin true m e) h =
     let z : m * up e ≡ 0 = omega (arith, ltb-false 0 (m * up e * 1 + 0 * down e) h) in
     rw z (round-not-below f true (1 * up d * 0) (down d * down e) (mul-pos (down-pos d) (down-pos e)) (omega arith))
 
--- x mod 2, over the format
-turn-of-not-below : (f : Format) (x : Float) → NotBelow (turnOf f x)
-turn-of-not-below f x = mul-not-below f (pos 1) (sub f (mul f x half+) (floorS f (mul f x half+))) (part (mul f x half+) (mul-fits f x half+))
-  where
-    part : (h : Float) → T (fits f h) → NotBelow (sub f h (floorS f h))
-    part nan F = unfold sub add lt in refl
-    part (inf true) F = rw (floor-inf f true) (unfold sub add neg lt in refl)
-    part (inf false) F = rw (floor-inf f false) (unfold sub add neg lt in refl)
-    part (fin s m e) F = sub-not-below f s m e (floorS f (fin s m e)) (floor-at-most f s m e F)
+-- the fraction of h, and x mod 2, over the format
+pub part-not-below : (f : Format) (h : Float) → T (fits f h) → NotBelow (sub f h (floorS f h))
+part-not-below f nan F = unfold sub add lt in refl
+part-not-below f (inf true) F = rw (floor-inf f true) (unfold sub add neg lt in refl)
+part-not-below f (inf false) F = rw (floor-inf f false) (unfold sub add neg lt in refl)
+part-not-below f (fin s m e) F = sub-not-below f s m e (floorS f (fin s m e)) (floor-at-most f s m e F)
+
+pub turn-of-not-below : (f : Format) (x : Float) → NotBelow (turnOf f x)
+turn-of-not-below f x =
+    mul-not-below f (pos 1) (sub f (mul f x half+) (floorS f (mul f x half+))) (part-not-below f (mul f x half+) (mul-fits f x half+))
 
 pub turn-not-below : (x : Float) → NotBelow (turnS x)
 unfolding turnS ofBits
