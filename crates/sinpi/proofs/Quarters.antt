@@ -1,32 +1,35 @@
--- n by four tests of t = x mod 2, over the format: t is a NaN or lies from 0 to 2 (`turn-range`), and (whole part of 4 t + 1) / 2 is 0 below 1/4, 1 below
--- 3/4, 2 below 5/4, 3 below 7/4, and 4 from there on (`first`, `between`, `last`). Assumes nothing.
+-- n by four tests of t = x mod 2, over the format: t is a NaN or at most 2 (`turn-at-most`), and (whole part of 4 t + 1) / 2 is 0 below 1/4, 1 below 3/4,
+-- 2 below 5/4, 3 below 7/4, and 4 from there on. So each case of sinpi goes by a test (`case-0` to `case-4`). Assumes nothing.
 use mathlib.Core.Path.{_≡_, refl, sym, ap, _∙_, subst}
 use mathlib.Core.Logic.{_⊎_, inl, inr}
 use Prim.Native.Nat.{ℕ, zero, suc, _+_, _*_, _/_, _%_, _^_, _≤_, _<_}
-use native.Mathlib.Nat.{le-of-eq, le-trans, lt-of-le-of-lt, mul-pos, mul-comm, mul-assoc, mul-right-comm, mul-left-comm, mul-one, one-mul, zero-mul, add-mul, mul-le-mul-right, mul-le-mul-left, le-of-mul-le-mul-right, div-add-mod', div-le-self, mod-lt, mod-one, suc-mul, div-lt-iff-lt-mul, le-div-iff-mul-le, eq-zero-or-pos, zero-div}
+use native.Mathlib.Nat.{le-of-eq, le-trans, lt-of-le-of-lt, mul-pos, mul-comm, mul-assoc, mul-right-comm, mul-left-comm, mul-one, one-mul, zero-mul, add-mul, mul-le-mul-right, le-of-mul-le-mul-right, div-add-mod', div-le-self, mod-lt, mod-one, suc-mul, div-lt-iff-lt-mul, le-div-iff-mul-le, eq-zero-or-pos, zero-div}
 use native.Mathlib.Omega.{arith}
 use mathlib.Core.Bool.{Bool, true, false, not, true≢false}
 use lib.IntN.{ℤ, pos, negsuc, natAbs}
-use lib.Dec.{T, lit<}
+use lib.Dec.{T, lit<, lit≤}
 use lib.Pow.{pow-pos, pow-add}
-use lib.Ieee.{Float, nan, inf, fin, Format, binary32, binary64, prec, emax, low, up, down, round, add, sub, mul, neg, lt, le, fits}
+use lib.Ieee.{Float, nan, inf, fin, Format, binary32, binary64, prec, emax, low, up, down, round, add, sub, mul, neg, lt, le, fits, ofBits, ofInt}
 use lib.Ieee.Back.{round-whole}
 use lib.Ieee.Exact.{HasValue, round-exact}
 use lib.Ieee.Fits.{down-pos, round-fits, mul-fits}
 use lib.Ieee.Nearest.{div-same}
 use lib.Ieee.Scale.{finite}
-use borrow.Author.Tests.{ltb-true, ltb-false, lt-ltb}
+use borrow.Author.Tests.{ltb-true, ltb-false}
 use Rattle.rounding.proofs.Signed.{P, N, le→Le, round-zero}
 use Rattle.rounding.proofs.Fraction.{add-fraction, mul-is, mul-commutes}
 use Rattle.rounding.proofs.Monotone.{mul-mono-plus}
 use Rattle.rounding.proofs.Grid.{on-grid}
 use Rattle.rounding.proofs.Exact.{round-at-most}
 use Rattle.rounding.proofs.Relative.{one+}
+use Rattle.words.specs.F64.{_⊖_, _⊗_, bits}
 use Rattle.words.specs.Floor.{floorS}
 use Rattle.words.specs.Whole.{signed, wholeS}
 use Rattle.words.proofs.FloorLaws.{sizeBelow, stays, falls}
+use Rattle.sinpi.specs.Sinpi.{PI}
 use Rattle.sinpi.proofs.Exactness.{half+, turnOf, whole-value}
-use Rattle.sinpi.proofs.Reduction.{NotBelow, part-not-below, turn-of-not-below}
+use Rattle.sinpi.proofs.Reduction.{NotBelow, part-not-below}
+use Rattle.sinpi.proofs.Octants.{case}
 
 -- ---- t is at most 2
 
@@ -154,7 +157,7 @@ abbrev pub quarterOf : Format → Float → ℕ
 quarterOf f t = (natAbs (wholeS (mul f (fin false 1 (pos 2)) t)) + 1) / 2
 
 -- a / 4
-abbrev pub cut : ℕ → Float
+abbrev cut : ℕ → Float
 cut a = fin false a (negsuc 1)
 
 -- 4 t is exact, for a t up to 2
@@ -247,7 +250,7 @@ below-2 M D b h k = let a : b * D ≤ 8 * D = mul-le-mul-right D h in omega arit
 
 module _ (f : Format) (t : Float) (F : T (fits f t)) where
   -- ---- from a / 4 to below b / 4
-  pub between : (a b : ℕ) → 0 < a → b ≤ 8 → lt t (cut a) ≡ false → lt t (cut b) ≡ true → Quarters f t a b
+  between : (a b : ℕ) → 0 < a → b ≤ 8 → lt t (cut a) ≡ false → lt t (cut b) ≡ true → Quarters f t a b
   unfolding lt
   between a b p B h k = go t F h k
     where
@@ -261,7 +264,7 @@ module _ (f : Format) (t : Float) (F : T (fits f t)) where
           counted f m e a b F (below-2 (m * up e) (down e) b B l) (over m e a h) l
 
   -- ---- below b / 4
-  pub first : (b : ℕ) → b ≤ 8 → NotBelow t → lt t (cut b) ≡ true → Quarters f t 0 b
+  first : (b : ℕ) → b ≤ 8 → NotBelow t → lt t (cut b) ≡ true → Quarters f t 0 b
   unfolding lt
   first b B n k = go t F n k
     where
@@ -281,7 +284,7 @@ module _ (f : Format) (t : Float) (F : T (fits f t)) where
           counted f m e 0 b F (below-2 (m * up e) (down e) b B l) (omega arith) l
 
   -- ---- from a / 4 to 2
-  pub last : (a : ℕ) → 0 < a → lt t (cut a) ≡ false → T (le t two+) → Quarters f t a 9
+  last : (a : ℕ) → 0 < a → lt t (cut a) ≡ false → T (le t two+) → Quarters f t a 9
   unfolding lt le
   last a p h k = go t F h k
     where
@@ -293,3 +296,40 @@ module _ (f : Format) (t : Float) (F : T (fits f t)) where
       go (fin false m e) F h k =
           let l : m * up e ≤ 2 * down e = omega (arith, le→Le false m e false 1 (pos 1) k) in
           counted f m e a 9 F l (over m e a h) (omega (arith, down-pos e))
+
+-- ---- sinpi over the kernels of the sine and of the cosine, by t
+abbrev half : Float
+half = fin false 1 (negsuc 0)
+
+abbrev pub by-turn : (Float → Float) → (Float → Float) → Format → Float → Float
+by-turn sine cosine f t = case sine cosine (quarterOf f t) ((t ⊖ ofInt binary64 (pos (quarterOf f t)) ⊗ half) ⊗ PI)
+
+module _ (sine cosine : Float → Float) (f : Format) (t : Float) where
+  at : (n : ℕ) (c : Float) → ofInt binary64 (pos n) ⊗ half ≡ c → quarterOf f t ≡ n → case sine cosine n ((t ⊖ c) ⊗ PI) ≡ by-turn sine cosine f t
+  at n c h q = sym (ap (λ (k : ℕ). case sine cosine k ((t ⊖ ofInt binary64 (pos k) ⊗ half) ⊗ PI)) q ∙ ap (λ (d : Float). case sine cosine n ((t ⊖ d) ⊗ PI)) h)
+
+  module _ (F : T (fits f t)) where
+    pub case-0 : NotBelow t → lt t (cut 1) ≡ true → sine ((t ⊖ bits 0) ⊗ PI) ≡ by-turn sine cosine f t
+    unfolding ofInt mul ofBits
+    case-0 n h = let q = first f t F 1 (lit≤ tt) n h in at 0 (bits 0) refl (q .1 ∙ omega arith)
+
+    pub case-1 : lt t (cut 1) ≡ false → lt t (cut 3) ≡ true → cosine ((t ⊖ bits 0x3FE0000000000000) ⊗ PI) ≡ by-turn sine cosine f t
+    unfolding ofInt mul ofBits
+    case-1 g h = let q = between f t F 1 3 (lit< tt) (lit≤ tt) g h in at 1 (bits 0x3FE0000000000000) refl (q .1 ∙ omega arith)
+
+    pub case-2 : lt t (cut 3) ≡ false → lt t (cut 5) ≡ true → sine (neg ((t ⊖ bits 0x3FF0000000000000) ⊗ PI)) ≡ by-turn sine cosine f t
+    unfolding ofInt mul ofBits
+    case-2 g h = let q = between f t F 3 5 (lit< tt) (lit≤ tt) g h in at 2 (bits 0x3FF0000000000000) refl (q .1 ∙ omega arith)
+
+    pub case-3 : lt t (cut 5) ≡ false → lt t (cut 7) ≡ true → neg (cosine ((t ⊖ bits 0x3FF8000000000000) ⊗ PI)) ≡ by-turn sine cosine f t
+    unfolding ofInt mul ofBits
+    case-3 g h = let q = between f t F 5 7 (lit< tt) (lit≤ tt) g h in at 3 (bits 0x3FF8000000000000) refl (q .1 ∙ omega arith)
+
+    pub case-4 : lt t (cut 7) ≡ false → T (le t two+) → sine ((t ⊖ bits 0x4000000000000000) ⊗ PI) ≡ by-turn sine cosine f t
+    unfolding ofInt mul ofBits
+    case-4 g h = let q = last f t F 7 (lit< tt) g h in at 4 (bits 0x4000000000000000) refl (q .1 ∙ omega arith)
+
+  -- of a NaN both ways
+  pub case-nan : t ≡ nan → sine ((t ⊖ bits 0x4000000000000000) ⊗ PI) ≡ by-turn sine cosine f t
+  unfolding sub add mul wholeS
+  case-nan e = rw e refl

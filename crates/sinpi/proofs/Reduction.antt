@@ -1,15 +1,11 @@
--- x mod 2, as sinpi takes it, is not below zero, so the whole part of four times it is a natural number. Over the format. Assumes nothing.
-use mathlib.Core.Path.{_≡_, refl, sym, subst}
-use Prim.Native.Nat.{ℕ, _+_, _*_, _^_, _<_, _≤_}
+-- x mod 2, as sinpi takes it, is not below zero. Over the format. Assumes nothing.
+use mathlib.Core.Path.{_≡_, refl}
+use Prim.Native.Nat.{ℕ, _+_, _*_, _<_, _≤_}
 use native.Mathlib.Nat.{mul-pos}
 use native.Mathlib.Omega.{arith}
 use mathlib.Core.Bool.{Bool, true, false, not, true≢false}
 use lib.Dec.{T}
-use lib.IntN.{ℤ, pos, negsuc, natAbs}
-use lib.Signed.{nonNeg}
-use mir.Syntax.{w32}
-use mir.Val.{SFits, toZ, ofZ}
-use mir.ValLaws.{toZ-ofZ}
+use lib.IntN.{ℤ, pos}
 use lib.Ieee.{Float, nan, inf, fin, Format, binary32, binary64, up, down, round, neg, add, sub, mul, lt, le, fits, ofBits}
 use lib.Ieee.Fits.{down-pos, mul-fits}
 use borrow.Author.Tests.{ltb-false, le-ltb}
@@ -18,9 +14,7 @@ use Rattle.rounding.proofs.Fraction.{add-fraction}
 use Rattle.rounding.proofs.Relative.{zero+}
 use Rattle.rounding.proofs.Exact.{round-at-least}
 use Rattle.words.specs.Floor.{floorS}
-use Rattle.words.specs.Whole.{wholeS}
 use Rattle.words.proofs.FloorValues.{floor-at-most, floor-inf}
-use Rattle.words.proofs.WholeLaws.{whole-natural}
 use Rattle.sinpi.specs.Sinpi.{turnS}
 use Rattle.sinpi.specs.Sinpif as Sinpif
 use Rattle.sinpi.proofs.Exactness.{half+, turnOf}
@@ -92,15 +86,3 @@ turn-not-below x = turn-of-not-below binary64 x
 pub turnf-not-below : (x : Float) → NotBelow (Sinpif.turnS x)
 unfolding Sinpif.turnS ofBits
 turnf-not-below x = turn-of-not-below binary32 x
-
--- four times a value that is not below zero has a natural number as its whole part
-pub four-natural : (f : Format) (x : Float) → NotBelow x → wholeS (mul f (fin false 1 (pos 2)) x) ≡ pos (natAbs (wholeS (mul f (fin false 1 (pos 2)) x)))
-four-natural f x h = whole-natural (mul f (fin false 1 (pos 2)) x) (mul-not-below f (pos 2) x h)
-
--- an i32 that is a natural number has room for one more in a u32
-pub room : (z w : ℤ) → SFits w32 z → z ≡ w → w ≡ pos (natAbs w) → T (nonNeg (toZ w32 (ofZ w32 z))) × (natAbs (toZ w32 (ofZ w32 z)) + 1 < 2 ^ 32)
-room z w f e n = rw (toZ-ofZ w32 z f) (go z f (subst (λ (v : ℤ). v ≡ pos (natAbs v)) (sym e) n))
-  where
-    go : (z : ℤ) → SFits w32 z → z ≡ pos (natAbs z) → T (nonNeg z) × (natAbs z + 1 < 2 ^ 32)
-    go (pos n) f e = (tt, omega (arith, f .sfits))
-    go (negsuc n) f e = absurd (subst (λ (z : ℤ). T (nonNeg z)) (sym e) tt)
