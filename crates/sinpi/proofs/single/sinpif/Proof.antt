@@ -17,29 +17,29 @@ use Rattle.words.proofs.PatternLaws.{is-nan, not-nan}
 use Rattle.trig.specs.KSinf.{kSinfS}
 use Rattle.trig.specs.KCosf.{kCosfS}
 use Rattle.sinpi.specs.Sinpi.{PI}
-use Rattle.sinpi.specs.Sinpif.{turnfS, quarterfS, sinpifS}
+use Rattle.sinpi.specs.Sinpif.{turnS, quarterS, sinpifS}
 use Rattle.sinpi.proofs.Reduction.{turnf-not-below}
 use Rattle.sinpi.proofs.Exactness.{turnOf}
 use Rattle.sinpi.proofs.Quarters as quarters
 use Rattle.sinpi.proofs.single.sinpif.Statement.{statement}
 use Rattle.sinpi.proofs.single.sinpif.Tie as tie
 
-turn-of : (x : Float) → turnfS x ≡ turnOf binary32 x
-unfolding turnfS ofBits
+turn-of : (x : Float) → turnS x ≡ turnOf binary32 x
+unfolding turnS ofBits
 turn-of x = refl
 
-turn-fits : (x : Float) → T (fits binary32 (turnfS x))
-unfolding turnfS
+turn-fits : (x : Float) → T (fits binary32 (turnS x))
+unfolding turnS
 turn-fits x = mul-fits binary32 _ _
 
 -- the definition takes the factors of 4.0 * t the other way round
-quarter : (t : Float) → quarters.quarterOf binary32 t ≡ quarterfS t
-unfolding quarterfS ofBits
+quarter : (t : Float) → quarters.quarterOf binary32 t ≡ quarterS t
+unfolding quarterS ofBits
 quarter t = ap (λ (z : Float). (natAbs (wholeS z) + 1) / 2) (mul-commutes binary32 (F32.bits 0x40800000) t)
 
-by-turn : (x : Float) → quarters.by-turn kSinfS kCosfS binary32 (turnfS x) ≡ sinpifS x
+by-turn : (x : Float) → quarters.by-turn kSinfS kCosfS binary32 (turnS x) ≡ sinpifS x
 unfolding sinpifS ofBits
-by-turn x = rw (quarter (turnfS x)) refl
+by-turn x = rw (quarter (turnS x)) refl
 
 -- k_sinf of a NaN is one
 sine-nan : kSinfS nan ≡ nan
@@ -54,10 +54,10 @@ unfolding sub add mul
 returns c =
     let s = c .before in
     let x = s .before .args .x in
-    let n : turnfS x ≡ nan = sym (s .turn .ensures) ∙ is-nan _ (c .if1 .taken) in
+    let n : turnS x ≡ nan = sym (s .turn .ensures) ∙ is-nan _ (c .if1 .taken) in
     s .turn .ensures ∙ n ∙ sym sine-nan
     ∙ ap (λ (z : Float). kSinfS ((z ⊖ bits 0x4000000000000000) ⊗ PI)) (sym n)
-    ∙ quarters.case-nan kSinfS kCosfS binary32 (turnfS x) n
+    ∙ quarters.case-nan kSinfS kCosfS binary32 (turnS x) n
     ∙ by-turn x
 
 float-to-float-d : tie.Need-float-to-float-d
@@ -78,7 +78,7 @@ returns-2 c =
     let x = s .before .args .x in
     let t = s .turn .ensures in
     c .k-sinf .ensures ∙ ap kSinfS (c .before .angle .ensures) ∙ ap (λ (z : Float). kSinfS ((z ⊖ bits 0) ⊗ PI)) t
-    ∙ quarters.case-0 kSinfS kCosfS binary32 (turnfS x) (turn-fits x) (turnf-not-below x) (rw t at (c .before .before .if2 .taken))
+    ∙ quarters.case-0 kSinfS kCosfS binary32 (turnS x) (turn-fits x) (turnf-not-below x) (rw t at (c .before .before .if2 .taken))
     ∙ by-turn x
 
 angle-requires-2 : tie.Need-angle-requires-2
@@ -94,7 +94,7 @@ returns-3 c =
     let x = s .before .args .x in
     let t = s .turn .ensures in
     c .k-cosf .ensures ∙ ap kCosfS (c .before .angle2 .ensures) ∙ ap (λ (z : Float). kCosfS ((z ⊖ bits 0x3FE0000000000000) ⊗ PI)) t
-    ∙ quarters.case-1 kSinfS kCosfS binary32 (turnfS x) (turn-fits x) (rw t at (c .before .before .before .if2 .left)) (rw t at (c .before .before .if3 .taken))
+    ∙ quarters.case-1 kSinfS kCosfS binary32 (turnS x) (turn-fits x) (rw t at (c .before .before .before .if2 .left)) (rw t at (c .before .before .if3 .taken))
     ∙ by-turn x
 
 angle-requires-3 : tie.Need-angle-requires-3
@@ -110,7 +110,7 @@ returns-4 c =
     let x = s .before .args .x in
     let t = s .turn .ensures in
     c .k-sinf2 .ensures ∙ ap (λ (z : Float). kSinfS (neg z)) (c .before .angle3 .ensures) ∙ ap (λ (z : Float). kSinfS (neg ((z ⊖ bits 0x3FF0000000000000) ⊗ PI))) t
-    ∙ quarters.case-2 kSinfS kCosfS binary32 (turnfS x) (turn-fits x) (rw t at (c .before .before .before .if3 .left)) (rw t at (c .before .before .if4 .taken))
+    ∙ quarters.case-2 kSinfS kCosfS binary32 (turnS x) (turn-fits x) (rw t at (c .before .before .before .if3 .left)) (rw t at (c .before .before .if4 .taken))
     ∙ by-turn x
 
 angle-requires-4 : tie.Need-angle-requires-4
@@ -126,7 +126,7 @@ returns-5 c =
     let x = s .before .args .x in
     let t = s .turn .ensures in
     ap neg (c .k-cosf2 .ensures) ∙ ap (λ (z : Float). neg (kCosfS z)) (c .before .angle4 .ensures) ∙ ap (λ (z : Float). neg (kCosfS ((z ⊖ bits 0x3FF8000000000000) ⊗ PI))) t
-    ∙ quarters.case-3 kSinfS kCosfS binary32 (turnfS x) (turn-fits x) (rw t at (c .before .before .before .if4 .left)) (rw t at (c .before .before .if5 .taken))
+    ∙ quarters.case-3 kSinfS kCosfS binary32 (turnS x) (turn-fits x) (rw t at (c .before .before .before .if4 .left)) (rw t at (c .before .before .if5 .taken))
     ∙ by-turn x
 
 angle-requires-5 : tie.Need-angle-requires-5
@@ -144,8 +144,8 @@ returns-6 c =
     let h = rw t at (c .before .before .if5 .left) in
     c .k-sinf3 .ensures ∙ ap kSinfS (c .before .angle5 .ensures) ∙ ap (λ (z : Float). kSinfS ((z ⊖ bits 0x4000000000000000) ⊗ PI)) t
     ∙ elim (quarters.turn-at-most binary32 x) [
-      | inl n ↦ quarters.case-nan kSinfS kCosfS binary32 (turnfS x) (turn-of x ∙ n)
-      | inr l ↦ quarters.case-4 kSinfS kCosfS binary32 (turnfS x) (turn-fits x) h (rw (turn-of x) l)
+      | inl n ↦ quarters.case-nan kSinfS kCosfS binary32 (turnS x) (turn-of x ∙ n)
+      | inr l ↦ quarters.case-4 kSinfS kCosfS binary32 (turnS x) (turn-fits x) h (rw (turn-of x) l)
     ]
     ∙ by-turn x
 
