@@ -43,16 +43,16 @@ module _ (p : Plan) where
 
   -- of a NaN, where exp, erfc1 and z keep it
   module _ (e : p .exp nan ≡ nan) (n : erfc1S p nan ≡ nan) (z : shortS p nan ≡ nan) where
-    first-exp : p .exp (sub f (mul f (neg (shortS p nan)) (shortS p nan)) (p .x0·5625)) ≡ nan
+    first-exp : p .exp (sub f (mul f (neg (shortS p nan)) (shortS p nan)) (p .0·5625)) ≡ nan
     unfolding neg sub add mul
-    first-exp = ap (λ (v : Float). p .exp (sub f (mul f (neg v) v) (p .x0·5625))) z ∙ e
+    first-exp = ap (λ (v : Float). p .exp (sub f (mul f (neg v) v) (p .0·5625))) z ∙ e
 
     pub erfc2-nan : (ix : ℕ) → erfc2S p ix nan ≡ nan
     unfolding erfc2S fabsS mul div
     erfc2-nan ix = go (ltb ix (p .at1·25)) _
       where
         go : (b : Bool) (B : Float)
-            → pick b (erfc1S p nan) (div f (mul f (p .exp (sub f (mul f (neg (shortS p nan)) (shortS p nan)) (p .x0·5625))) B) nan) ≡ nan
+            → pick b (erfc1S p nan) (div f (mul f (p .exp (sub f (mul f (neg (shortS p nan)) (shortS p nan)) (p .0·5625))) B) nan) ≡ nan
         go true B = n
         go false B = ap (λ (A : Float). div f (mul f A B) nan) first-exp
 
