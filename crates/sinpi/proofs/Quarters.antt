@@ -2,18 +2,16 @@
 -- 2 below 5/4, 3 below 7/4, and 4 from there on. So each case of sinpi goes by a test (`case-0` to `case-4`). Assumes nothing.
 use mathlib.Core.Path.{_≡_, refl, sym, ap, _∙_, subst}
 use mathlib.Core.Logic.{_⊎_, inl, inr}
-use Prim.Native.Nat.{ℕ, zero, suc, _+_, _*_, _/_, _%_, _^_, _≤_, _<_}
-use native.Mathlib.Nat.{le-of-eq, le-trans, lt-of-le-of-lt, mul-pos, mul-comm, mul-assoc, mul-right-comm, mul-left-comm, mul-one, one-mul, zero-mul, add-mul, mul-le-mul-right, le-of-mul-le-mul-right, div-add-mod', div-le-self, mod-lt, mod-one, suc-mul, div-lt-iff-lt-mul, le-div-iff-mul-le, eq-zero-or-pos, zero-div}
+use Prim.Native.Nat.{ℕ, zero, suc, _+_, _-_, _*_, _/_, _%_, _^_, _≤_, _<_}
+use native.Mathlib.Nat.{le-of-eq, le-trans, lt-of-lt-of-le, mul-pos, mul-comm, mul-assoc, mul-right-comm, mul-left-comm, mul-one, one-mul, zero-mul, add-mul, mul-le-mul-right, le-of-mul-le-mul-right, div-add-mod', mod-lt, suc-mul, div-lt-iff-lt-mul, le-div-iff-mul-le, eq-zero-or-pos, zero-div}
 use native.Mathlib.Omega.{arith}
 use mathlib.Core.Bool.{Bool, true, false, not, true≢false}
 use lib.IntN.{ℤ, pos, negsuc, natAbs}
 use lib.Dec.{T, lit<, lit≤}
-use lib.Pow.{pow-pos, pow-add}
+use lib.Pow.{pow-pos, pow-add, pow-mono}
 use lib.Ieee.{Float, nan, inf, fin, Format, binary32, binary64, prec, emax, low, up, down, round, add, sub, mul, neg, lt, le, fits, ofBits, ofInt}
-use lib.Ieee.Back.{round-whole}
 use lib.Ieee.Exact.{HasValue, round-exact}
-use lib.Ieee.Fits.{down-pos, round-fits, mul-fits}
-use lib.Ieee.Nearest.{div-same}
+use lib.Ieee.Fits.{down-pos, mul-fits}
 use lib.Ieee.Scale.{finite}
 use borrow.Author.Tests.{ltb-true, ltb-false}
 use Rattle.rounding.proofs.Signed.{P, N, le→Le, round-zero}
@@ -25,9 +23,10 @@ use Rattle.rounding.proofs.Relative.{one+}
 use Rattle.words.specs.F64.{_⊖_, _⊗_, bits}
 use Rattle.words.specs.Floor.{floorS}
 use Rattle.words.specs.Whole.{signed, wholeS}
-use Rattle.words.proofs.FloorLaws.{sizeBelow, stays, falls}
+use Rattle.words.proofs.FloorValues.{sizeBelow, stays, floor-part, part-small}
+use Rattle.words.proofs.WholeLaws.{whole-nan, whole-value}
 use Rattle.sinpi.specs.Sinpi.{PI}
-use Rattle.sinpi.proofs.Exactness.{half+, turnOf, whole-value}
+use Rattle.sinpi.proofs.Exactness.{half+, turnOf}
 use Rattle.sinpi.proofs.Reduction.{NotBelow, part-not-below}
 use Rattle.sinpi.proofs.Octants.{case}
 
@@ -79,18 +78,19 @@ part-at-most f s m e F =
           subst (λ (y : Float). T (le (sub f h y) one+)) (stays f h s (m * up e) (down e) (down-pos e) (refl, refl) z)
           (sub-at-most f s m e h (m * up e / down e) (refl, whole z) (near s z))
       | inr p ↦
-          let y = round f s (sizeBelow s (m * up e / down e)) 1 in
-          let v = round-whole f s (sizeBelow s (m * up e / down e)) (room s (few e p)) in
-          subst (λ (y : Float). T (le (sub f h y) one+))
-          (falls f h y s (m * up e) (down e) (down-pos e) (refl, refl) (λ (z : m * up e % down e ≡ 0). clash z p) (few e p) (round-fits f s _ 1) v)
-          (sub-at-most f s m e y (sizeBelow s (m * up e / down e)) v (below s))
+          sub-at-most f s m e (floorS f h) (sizeBelow s (m * up e / down e))
+          (floor-part f h s (m * up e) (down e) (down-pos e) (refl, refl) (broken p) (lt-of-lt-of-le (part-small f s m e F (broken p)) (pow-mono (less (prec f)))))
+          (below s)
     ]
   where
     h : Float
     h = fin s m e
 
-    clash : {a : ℕ} → a ≡ 0 → 0 < a → ⊥
-    clash z p = omega arith
+    broken : 0 < m * up e % down e → m * up e % down e ≡ 0 → ⊥
+    broken p z = omega arith
+
+    less : (p : ℕ) → p - 1 ≤ p
+    less p = omega arith
 
     whole : m * up e % down e ≡ 0 → m * up e * 1 ≡ m * up e / down e * down e
     whole z = let a = div-add-mod' (m * up e) (down e) in omega arith
@@ -106,18 +106,6 @@ part-at-most f s m e F =
         let a = div-add-mod' (m * up e) (down e) in
         let c : suc (m * up e / down e) * down e ≡ m * up e / down e * down e + down e = suc-mul (m * up e / down e) (down e) in
         omega arith
-
-    digits : m < 2 ^ prec f
-    digits = on-grid f s m e F .1 .1
-
-    -- with a fraction there are no more of them before the point
-    few : (e : ℤ) → 0 < m * up e % down e → m * up e / down e < 2 ^ prec f
-    few (pos k) p = absurd (clash (mod-one (m * 2 ^ k)) p)
-    few (negsuc k) p = lt-of-le-of-lt (div-le-self (m * 1) (2 ^ suc k)) (subst (λ (z : ℕ). z < 2 ^ prec f) (sym (mul-one m)) digits)
-
-    room : (s : Bool) {q : ℕ} → q < 2 ^ prec f → sizeBelow s q ≤ 2 ^ prec f
-    room false l = omega arith
-    room true l = omega arith
 
 abbrev two+ : Float
 two+ = fin false 1 (pos 1)
@@ -196,8 +184,8 @@ counted : (f : Format) (m : ℕ) (e : ℤ) (a b : ℕ) → T (fits f (fin false 
 counted f m e a b F h k l =
     let q = 4 * (m * up e) / down e in (
       q,
-      ap (λ (n : ℕ). (n + 1) / 2)
-          (whole-value (mul f (fin false 1 (pos 2)) (fin false m e)) (4 * (m * up e)) (down e) (down-pos e) (four-exact f m e F h)
+      ap (λ (z : ℤ). (natAbs z + 1) / 2)
+          (whole-value (mul f (fin false 1 (pos 2)) (fin false m e)) false (4 * (m * up e)) (down e) (down-pos e) (four-exact f m e F h)
           (far q (div-lt-iff-lt-mul (down-pos e) .1 (nine (m * up e) (down e) h (down-pos e))))),
       le-div-iff-mul-le (down-pos e) .1 k,
       div-lt-iff-lt-mul (down-pos e) .1 l,
@@ -228,10 +216,7 @@ no-minus m e a p h =
 
 -- the whole part of a zero, and of four times -0
 no-whole : (x : Float) (s : Bool) (L : ℕ) → 0 < L → HasValue x s 0 L → natAbs (wholeS x) ≡ 0
-unfolding wholeS
-no-whole nan s L l v = absurd v
-no-whole (inf t) s L l v = absurd v
-no-whole (fin t n d) s L l v = rw (div-same (n * up d) (down d) 0 L (down-pos d) l (v .1), zero-div L) (sign t)
+no-whole x s L l v = ap natAbs (whole-value x s 0 L l v (rw (zero-div L) (pow-pos 31)) ∙ ap (signed s) (zero-div L)) ∙ sign s
   where
     sign : (t : Bool) → natAbs (signed t 0) ≡ 0
     sign true = refl
@@ -331,5 +316,5 @@ module _ (sine cosine : Float → Float) (f : Format) (t : Float) where
 
   -- of a NaN both ways
   pub case-nan : t ≡ nan → sine ((t ⊖ bits 0x4000000000000000) ⊗ PI) ≡ by-turn sine cosine f t
-  unfolding sub add mul wholeS
-  case-nan e = rw e refl
+  unfolding sub add mul
+  case-nan e = rw (e, whole-nan) refl
