@@ -132,7 +132,7 @@ struct Place {
 }
 
 fn find(ix: u32) -> Place
-    ensures { λ r. ⌜ (ax : Float) (bias : ℕ) → intervalS ax (r .ix) (r .k) (pos (r .e) -ℤ pos bias) ≡ normalS ax ix (pos 0x3FF -ℤ pos bias) ⌝ }
+    ensures { λ r. ⌜ ((ax : Float) (bias : ℕ) → intervalS ax (r .ix) (r .k) (pos (r .e) -ℤ pos bias) ≡ normalS ax ix (pos 0x3FF -ℤ pos bias)) ⌝ }
     ensures { λ r. ⌜ (r .k ≤ 1) × (r .e ≤ 0x1000) ⌝ }
 {
     let e = ix / 0x10_0000;
@@ -167,19 +167,19 @@ fn normal(ax: f64, ix: u32, bias: u32) -> Parts
     interval(ax, p.ix, p.k, exponent(p.e, bias))
 }
 
-// A normal number, the high word of it, and the bias that it is counted with.
+// A normal number, its high word, and the bias that it is counted with.
 struct Scaled {
     ax: f64,
     ix: u32,
     bias: u32,
 }
 
+// Of a subnormal number ax * 2^53. That is settled before `normal` is called, so that `normal` is called once.
 fn normalised(ax: f64, ix: u32) -> Scaled
     ensures { λ r. ⌜ normalS (r .ax) (r .ix) (pos 0x3FF -ℤ pos (r .bias)) ≡ log2S ax ix ⌝ }
     ensures { λ r. ⌜ (0x3FF ≤ r .bias) × (r .bias ≤ 0x434) ⌝ }
 {
     if ix < 0x10_0000 {
-        // a subnormal number
         let ax = ax * TWO53;
         return Scaled {
             ax,
