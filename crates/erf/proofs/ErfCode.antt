@@ -1,11 +1,11 @@
 -- What each return of erf and erfc, and of the functions that they are made of, gives, over their plan. Assumes nothing.
 use Prim.Native.Nat.{ℕ, _<_, _≤_}
-use mathlib.Core.Path.{_≡_}
+use mathlib.Core.Path.{_≡_, ap, _∙_}
 use mathlib.Core.Logic.{_⊎_, inl, inr}
-use mathlib.Core.Bool.{true, false, not, _||_}
+use mathlib.Core.Bool.{Bool, true, false, not, _||_}
 use lib.IntN.{pos}
 use lib.Dec.{ltb, eqb}
-use lib.Ieee.{Float, Format, neg, ofInt, add, sub, mul, div}
+use lib.Ieee.{Float, nan, Format, neg, ofInt, add, sub, mul, div}
 use borrow.Author.Tests.{le-leb, lt-leb, lt-ltb, le-ltb, eq-eqb, ne-eqb}
 use Rattle.words.specs.Pick.{pick}
 use Rattle.words.specs.Bits.{signS}
@@ -40,6 +40,21 @@ module _ (p : Plan) where
         → div f (mul f A B) a ≡ erfc2S p ix x
     unfolding erfc2S
     erfc2-far h ea ez eA eq eB = simp (le-ltb ix (p .at1·25) h) (rw (eB, eq, eA, ez, ea))
+
+  -- of a NaN, where exp, erfc1 and z keep it
+  module _ (e : p .exp nan ≡ nan) (n : erfc1S p nan ≡ nan) (z : shortS p nan ≡ nan) where
+    first-exp : p .exp (sub f (mul f (neg (shortS p nan)) (shortS p nan)) (p .0·5625)) ≡ nan
+    unfolding neg sub add mul
+    first-exp = ap (λ (v : Float). p .exp (sub f (mul f (neg v) v) (p .0·5625))) z ∙ e
+
+    pub erfc2-nan : (ix : ℕ) → erfc2S p ix nan ≡ nan
+    unfolding erfc2S fabsS mul div
+    erfc2-nan ix = go (ltb ix (p .at1·25)) _
+      where
+        go : (b : Bool) (B : Float)
+            → pick b (erfc1S p nan) (div f (mul f (p .exp (sub f (mul f (neg (shortS p nan)) (shortS p nan)) (p .0·5625))) B) nan) ≡ nan
+        go true B = n
+        go false B = ap (λ (A : Float). div f (mul f A B) nan) first-exp
 
   -- ---- erf and erfc
   -- erfc's test at 1/4, where the sign counts

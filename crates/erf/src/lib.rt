@@ -137,12 +137,17 @@ fn short(x: f64) -> f64
 fn erfc2(ix: u32, x: f64) -> f64
     ensures { λ r. ⌜ r ≡ erfc2S erf64 ix x ⌝ }
 {
+    // a NaN leaves first: no later look at the bits of x has to allow for one
+    if x != x {
+        return x;
+    }
     if ix < 0x3ff40000 {
         return erfc1(x);
     }
     let a = fabs(x);
     let s = 1.0 / (a * a);
     let z = short(a);
+    // here, so that it does not stand between the two exponentials
     let q = ratio(ix, s);
     exp(-z * z - 0.5625) * exp((z - a) * (z + a) + q) / a
 }
@@ -165,6 +170,7 @@ fn signed(sign: u32, y: f64) -> f64
 pub fn erf(x: f64) -> f64
     ensures { λ r. ⌜ r ≡ erfS x ⌝ }
 {
+    // a NaN leaves first: no later look at the bits of x has to allow for one
     if x != x {
         return x;
     }
@@ -189,6 +195,7 @@ pub fn erf(x: f64) -> f64
 pub fn erfc(x: f64) -> f64
     ensures { λ r. ⌜ r ≡ erfcS x ⌝ }
 {
+    // a NaN leaves first: no later look at the bits of x has to allow for one
     if x != x {
         return x;
     }

@@ -9,8 +9,6 @@ ghost use Rattle.erf.specs.Plan.{erfc1S, ratioS, shortS, erfc2S, smallS};
 ghost use Rattle.erff.specs.Erff.{erf32, erffS, erfcfS};
 use exp::single::expf;
 use poly::hornerf;
-use words::bits::bits_of_f32;
-use words::bits::of_bits_f32;
 use words::bits::sign_f32;
 use words::bits::size_bits;
 use words::fabs::fabsf;
@@ -127,18 +125,26 @@ fn ratio(ix: u32, s: f32) -> f32
 fn short(x: f32) -> f32
     ensures { λ r. ⌜ r ≡ shortS erf32 x ⌝ }
 {
-    of_bits_f32(bits_of_f32(x) / 0x2000 * 0x2000)
+    if x != x {
+        return x;
+    }
+    f32::from_bits(f32::to_bits(x) / 0x2000 * 0x2000)
 }
 
 fn erfc2(ix: u32, x: f32) -> f32
     ensures { λ r. ⌜ r ≡ erfc2S erf32 ix x ⌝ }
 {
+    // a NaN leaves first: no later look at the bits of x has to allow for one
+    if x != x {
+        return x;
+    }
     if ix < 0x3fa00000 {
         return erfc1(x);
     }
     let a = fabsf(x);
     let s = 1.0 / (a * a);
     let z = short(a);
+    // here, so that it does not stand between the two exponentials
     let q = ratio(ix, s);
     expf(-z * z - 0.5625) * expf((z - a) * (z + a) + q) / a
 }
@@ -161,6 +167,7 @@ fn signed(sign: u32, y: f32) -> f32
 pub fn erff(x: f32) -> f32
     ensures { λ r. ⌜ r ≡ erffS x ⌝ }
 {
+    // a NaN leaves first: no later look at the bits of x has to allow for one
     if x != x {
         return x;
     }
@@ -185,6 +192,7 @@ pub fn erff(x: f32) -> f32
 pub fn erfcf(x: f32) -> f32
     ensures { λ r. ⌜ r ≡ erfcfS x ⌝ }
 {
+    // a NaN leaves first: no later look at the bits of x has to allow for one
     if x != x {
         return x;
     }

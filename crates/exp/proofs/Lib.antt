@@ -3,6 +3,8 @@
 pub mod Zero
 -- ExpCode: what the returns of the code that exp and expf share give
 pub mod ExpCode
+-- SpecialValues: exp and expf of a NaN
+pub mod SpecialValues
 -- Unscaled: bounds of the answer in the primary range, before it is scaled
 pub mod Unscaled
 -- Cells: bounds of the answer for each multiple of ln 2 from -8 to -275

@@ -105,6 +105,7 @@ fn special(x: f64, hx: u32, sign: u32) -> f64
 pub fn exp(x: f64) -> f64
     ensures { λ r. ⌜ r ≡ expS x ⌝ }
 {
+    // a NaN leaves first: no later look at the bits of x has to allow for one
     if x != x {
         return x;
     }

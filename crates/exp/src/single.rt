@@ -49,7 +49,7 @@ fn multiple(x: f32, hx: u32, sign: u32) -> i32
     -1
 }
 
-// The f32 nearest to k, which is k where it is small.
+// The f32 nearest to k. Where k is small it is k itself, and `as` is one instruction; std's rounds two halves and adds them.
 fn float_of(k: i32) -> f32
     ensures { λ r. ⌜ r ≡ ofInt binary32 k ⌝ }
 {
@@ -106,6 +106,7 @@ fn special(x: f32, hx: u32, sign: u32) -> f32
 pub fn expf(x: f32) -> f32
     ensures { λ r. ⌜ r ≡ expfS x ⌝ }
 {
+    // a NaN leaves first: no later look at the bits of x has to allow for one
     if x != x {
         return x;
     }

@@ -1,12 +1,12 @@
 -- What each return of the functions that `lgamma_r` and `lgammaf_r` have in common gives, over their plan. Assumes nothing.
 use Prim.Native.Nat.{ℕ, _<_, _≤_}
-use mathlib.Core.Path.{_≡_, _∙_}
+use mathlib.Core.Path.{_≡_, sym, ap, _∙_, subst}
 use mathlib.Core.Bool.{Bool, true, false}
 use lib.IntN.{ℤ, pos, negsuc}
 use lib.Signed.{leZ}
 use lib.Dec.{leb}
 use lib.Ieee as Ieee
-use lib.Ieee.{Float, neg, ofInt}
+use lib.Ieee.{Float, nan, neg, ofInt}
 use mir.Syntax.{w32}
 use mir.Val.{SFits, toZ, ofZ}
 use mir.ValLaws.{toZ-ofZ}
@@ -15,6 +15,7 @@ use Rattle.words.specs.Pick.{pick}
 use Rattle.words.specs.Operators.{Operators, operators}
 use Rattle.words.specs.Bits.{signS}
 use Rattle.words.specs.Whole.{wholeS}
+use Rattle.words.proofs.PatternLaws.{is-nan}
 use Rattle.poly.specs.Horner.{hornerS}
 use Rattle.lgamma.specs.Plan.{Plan, Answer, Segment}
 use Rattle.lgamma.specs.Plan.{segmentS, addedS, below2S, productS, below8S, stirlingS, sizeS, reflectedS, lgammaS}
@@ -118,6 +119,14 @@ module _ (p : Plan) where
       sine-below el h a = simp (z, h) (rw (el, er) at a)
 
   -- ---- lgamma_r
+  -- of a NaN it is the NaN, and the sign is plus
+  pub not-number : lgammaS p nan ≡ record { value = nan; sign = pos 1 } → (x : Float) {v : Float} {s : ℤ} → Ieee.ne x x ≡ true
+      → Is v s (record { value = x; sign = pos 1 }) → Is v s (lgammaS p x)
+  not-number e x h a =
+      let r : record { value = x; sign = pos 1 } ≡ lgammaS p x =
+      subst (λ (y : Float). record { value = y; sign = pos 1 } ≡ lgammaS p y) (sym (is-nan x h)) (sym e) in
+      (a .0 ∙ ap (λ (b : Answer). b .value) r, a .1 ∙ ap (λ (b : Answer). b .sign) r)
+
   module _ (x : Float) {v : Float} {s : ℤ} {ix sign : ℕ} (ei : ix ≡ p .ix x) (eg : sign ≡ signS (p .format) x) where
     pub not-finite : p .notFinite ≤ ix → Is v s (record { value = x ⊗ x; sign = pos 1 }) → Is v s (lgammaS p x)
     unfolding lgammaS

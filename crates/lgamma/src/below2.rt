@@ -161,7 +161,7 @@ fn added(s: Segment) -> f64
     }
 }
 
-// Where r starts.
+// What r is before the segment adds to it.
 fn start(ix: u32, x: f64) -> f64
     ensures { λ r. ⌜ r ≡ (if ix ≤? lgamma64 .to0·9 then neg (lgamma64 .log x) else lgamma64 .0·0) ⌝ }
 {
@@ -172,6 +172,7 @@ fn start(ix: u32, x: f64) -> f64
     0.0
 }
 
+// One sum for both starts: the compiler then never makes the segment, and goes from its case to its formula.
 pub(crate) fn below2(ix: u32, x: f64) -> f64
     ensures { λ r. ⌜ r ≡ below2S lgamma64 ix x ⌝ }
 {

@@ -75,6 +75,7 @@ fn reflected(ix: u32, x: f64, t: f64) -> LgammaR
 pub fn lgamma_r(x: f64) -> LgammaR
     ensures { λ r. ⌜ (r .value ≡ lgammaS x .value) × (r .sign ≡ lgammaS x .sign) ⌝ }
 {
+    // a NaN leaves first: no later look at the bits of x has to allow for one
     if x != x {
         return answer(x, 1);
     }

@@ -72,6 +72,7 @@ fn reflected(ix: u32, x: f32, t: f32) -> LgammafR
 pub fn lgammaf_r(x: f32) -> LgammafR
     ensures { λ r. ⌜ (r .value ≡ lgammafS x .value) × (r .sign ≡ lgammafS x .sign) ⌝ }
 {
+    // a NaN leaves first: no later look at the bits of x has to allow for one
     if x != x {
         return answer(x, 1);
     }

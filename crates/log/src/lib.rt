@@ -76,6 +76,10 @@ fn reduced(ui: u64, k: i32) -> f64
 pub fn log(x: f64) -> f64
     ensures { λ r. ⌜ r ≡ logS x ⌝ }
 {
+    // a NaN leaves first: no later look at the bits of x has to allow for one
+    if x != x {
+        return x;
+    }
     let ui = bits_of(x);
     let hx = ui / 0x1_0000_0000;
     if hx < 0x0010_0000 || hx >= 0x8000_0000 {

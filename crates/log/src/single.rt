@@ -37,8 +37,9 @@ fn near(x: f32, k: i32) -> f32
     let s = f / (2.0 + f);
     let z = s * s;
     let w = z * z;
-    let t1 = w * hornerf(&LG_EVEN, w);
+    // in this order the compiler does both at once, as a vector
     let t2 = z * hornerf(&LG_ODD, w);
+    let t1 = w * hornerf(&LG_EVEN, w);
     let r = t2 + t1;
     let hfsq = 0.5 * f * f;
     let dk = k as f32;
@@ -59,6 +60,10 @@ fn reduced(ix: u32, k: i32) -> f32
 pub fn logf(x: f32) -> f32
     ensures { λ r. ⌜ r ≡ logfS x ⌝ }
 {
+    // a NaN leaves first: no later look at the bits of x has to allow for one
+    if x != x {
+        return x;
+    }
     let ix = bits_of_f32(x);
     if ix < 0x0080_0000 || ix >= 0x8000_0000 {
         if ix % 0x8000_0000 == 0 {

@@ -101,7 +101,7 @@ fn exponent(e: u32, bias: u32) -> i32
     e as i32 - bias as i32
 }
 
-// a where k is 0, else b.
+// [a, b][k], as the Rust has BP[k], DP_H[k] and DP_L[k].
 fn at(k: u32, a: f64, b: f64) -> f64
     ensures { λ r. ⌜ r ≡ (if k =? 0 then a else b) ⌝ }
 {
@@ -124,15 +124,16 @@ fn interval(ax: f64, ix: u32, k: u32, n: i32) -> Parts
     )
 }
 
-// Which interval, with which high word, and the exponent's field.
-pub struct Place {
-    pub ix: u32,
-    pub k: u32,
-    pub e: u32,
+// ax's interval: the high word there, k, and n with 1023 added.
+struct Place {
+    ix: u32,
+    k: u32,
+    e: u32,
 }
 
 fn find(ix: u32) -> Place
-    ensures { λ r. ⌜ ((ax : Float) (bias : ℕ) → intervalS ax (r .ix) (r .k) (pos (r .e) -ℤ pos bias) ≡ normalS ax ix (pos 0x3FF -ℤ pos bias)) × (r .k ≤ 1) × (r .e ≤ 0x1000) ⌝ }
+    ensures { λ r. ⌜ ((ax : Float) (bias : ℕ) → intervalS ax (r .ix) (r .k) (pos (r .e) -ℤ pos bias) ≡ normalS ax ix (pos 0x3FF -ℤ pos bias)) ⌝ }
+    ensures { λ r. ⌜ (r .k ≤ 1) × (r .e ≤ 0x1000) ⌝ }
 {
     let e = ix / 0x10_0000;
     let j = ix % 0x10_0000;
@@ -157,7 +158,7 @@ fn find(ix: u32) -> Place
     }
 }
 
-// ax is counted with 2^(1023 - bias).
+// ax is counted with 2^(1023 - bias). The interval is found first, so that the series stands in the compiled code once, not three times.
 fn normal(ax: f64, ix: u32, bias: u32) -> Parts
     requires { ⌜ (0x3FF ≤ bias) × (bias ≤ 0x434) ⌝ }
     ensures { λ r. ⌜ r ≡ normalS ax ix (pos 0x3FF -ℤ pos bias) ⌝ }
@@ -166,13 +167,36 @@ fn normal(ax: f64, ix: u32, bias: u32) -> Parts
     interval(ax, p.ix, p.k, exponent(p.e, bias))
 }
 
+// A normal number, its high word, and the bias that it is counted with.
+struct Scaled {
+    ax: f64,
+    ix: u32,
+    bias: u32,
+}
+
+// Of a subnormal number ax * 2^53. That is settled before `normal` is called, so that `normal` is called once.
+fn normalised(ax: f64, ix: u32) -> Scaled
+    ensures { λ r. ⌜ normalS (r .ax) (r .ix) (pos 0x3FF -ℤ pos (r .bias)) ≡ log2S ax ix ⌝ }
+    ensures { λ r. ⌜ (0x3FF ≤ r .bias) × (r .bias ≤ 0x434) ⌝ }
+{
+    if ix < 0x10_0000 {
+        let ax = ax * TWO53;
+        return Scaled {
+            ax,
+            ix: get_high_word(ax),
+            bias: 0x434,
+        };
+    }
+    Scaled {
+        ax,
+        ix,
+        bias: 0x3ff,
+    }
+}
+
 pub fn log2(ax: f64, ix: u32) -> Parts
     ensures { λ r. ⌜ r ≡ log2S ax ix ⌝ }
 {
-    if ix < 0x10_0000 {
-        // a subnormal number
-        let scaled = ax * TWO53;
-        return normal(scaled, get_high_word(scaled), 0x434);
-    }
-    normal(ax, ix, 0x3ff)
+    let s = normalised(ax, ix);
+    normal(s.ax, s.ix, s.bias)
 }

@@ -2,6 +2,8 @@
 pub mod Reduction
 -- Exactness: x mod 2 and what is left of it are exact, over the format
 pub mod Exactness
+-- Quarters: n by four tests of x mod 2
+pub mod Quarters
 -- Octants: k_sin or k_cos, octant by octant
 pub mod Octants
 -- Wholes: x mod 2 of a whole number

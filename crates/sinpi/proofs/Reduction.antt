@@ -1,15 +1,11 @@
--- x mod 2, as sinpi takes it, is not below zero, so the whole part of four times it is a natural number. Over the format. Assumes nothing.
-use mathlib.Core.Path.{_≡_, refl, sym, subst}
-use Prim.Native.Nat.{ℕ, _+_, _*_, _^_, _<_, _≤_}
+-- x mod 2, as sinpi takes it, is not below zero. Over the format. Assumes nothing.
+use mathlib.Core.Path.{_≡_, refl}
+use Prim.Native.Nat.{ℕ, _+_, _*_, _<_, _≤_}
 use native.Mathlib.Nat.{mul-pos}
 use native.Mathlib.Omega.{arith}
 use mathlib.Core.Bool.{Bool, true, false, not, true≢false}
 use lib.Dec.{T}
-use lib.IntN.{ℤ, pos, negsuc, natAbs}
-use lib.Signed.{nonNeg}
-use mir.Syntax.{w32}
-use mir.Val.{SFits, toZ, ofZ}
-use mir.ValLaws.{toZ-ofZ}
+use lib.IntN.{ℤ, pos}
 use lib.Ieee.{Float, nan, inf, fin, Format, binary32, binary64, up, down, round, neg, add, sub, mul, lt, le, fits, ofBits}
 use lib.Ieee.Fits.{down-pos, mul-fits}
 use borrow.Author.Tests.{ltb-false, le-ltb}
@@ -18,9 +14,7 @@ use Rattle.rounding.proofs.Fraction.{add-fraction}
 use Rattle.rounding.proofs.Relative.{zero+}
 use Rattle.rounding.proofs.Exact.{round-at-least}
 use Rattle.words.specs.Floor.{floorS}
-use Rattle.words.specs.Whole.{wholeS}
 use Rattle.words.proofs.FloorValues.{floor-at-most, floor-inf}
-use Rattle.words.proofs.WholeLaws.{whole-natural}
 use Rattle.sinpi.specs.Sinpi.{turnS}
 use Rattle.sinpi.specs.Sinpif as Sinpif
 use Rattle.sinpi.proofs.Exactness.{half+, turnOf}
@@ -74,15 +68,16 @@ mul-not-below f d (fin true m e) h =
     let z : m * up e ≡ 0 = omega (arith, ltb-false 0 (m * up e * 1 + 0 * down e) h) in
     rw z (round-not-below f true (1 * up d * 0) (down d * down e) (mul-pos (down-pos d) (down-pos e)) (omega arith))
 
--- x mod 2, over the format
-turn-of-not-below : (f : Format) (x : Float) → NotBelow (turnOf f x)
-turn-of-not-below f x = mul-not-below f (pos 1) (sub f (mul f x half+) (floorS f (mul f x half+))) (part (mul f x half+) (mul-fits f x half+))
-  where
-    part : (h : Float) → T (fits f h) → NotBelow (sub f h (floorS f h))
-    part nan F = unfold sub add lt in refl
-    part (inf true) F = rw (floor-inf f true) (unfold sub add neg lt in refl)
-    part (inf false) F = rw (floor-inf f false) (unfold sub add neg lt in refl)
-    part (fin s m e) F = sub-not-below f s m e (floorS f (fin s m e)) (floor-at-most f s m e F)
+-- the fraction of h, and x mod 2, over the format
+pub part-not-below : (f : Format) (h : Float) → T (fits f h) → NotBelow (sub f h (floorS f h))
+part-not-below f nan F = unfold sub add lt in refl
+part-not-below f (inf true) F = rw (floor-inf f true) (unfold sub add neg lt in refl)
+part-not-below f (inf false) F = rw (floor-inf f false) (unfold sub add neg lt in refl)
+part-not-below f (fin s m e) F = sub-not-below f s m e (floorS f (fin s m e)) (floor-at-most f s m e F)
+
+pub turn-of-not-below : (f : Format) (x : Float) → NotBelow (turnOf f x)
+turn-of-not-below f x =
+    mul-not-below f (pos 1) (sub f (mul f x half+) (floorS f (mul f x half+))) (part-not-below f (mul f x half+) (mul-fits f x half+))
 
 pub turn-not-below : (x : Float) → NotBelow (turnS x)
 unfolding turnS ofBits
@@ -91,15 +86,3 @@ turn-not-below x = turn-of-not-below binary64 x
 pub turnf-not-below : (x : Float) → NotBelow (Sinpif.turnS x)
 unfolding Sinpif.turnS ofBits
 turnf-not-below x = turn-of-not-below binary32 x
-
--- four times a value that is not below zero has a natural number as its whole part
-pub four-natural : (f : Format) (x : Float) → NotBelow x → wholeS (mul f (fin false 1 (pos 2)) x) ≡ pos (natAbs (wholeS (mul f (fin false 1 (pos 2)) x)))
-four-natural f x h = whole-natural (mul f (fin false 1 (pos 2)) x) (mul-not-below f (pos 2) x h)
-
--- an i32 that is a natural number has room for one more in a u32
-pub room : (z w : ℤ) → SFits w32 z → z ≡ w → w ≡ pos (natAbs w) → T (nonNeg (toZ w32 (ofZ w32 z))) × (natAbs (toZ w32 (ofZ w32 z)) + 1 < 2 ^ 32)
-room z w f e n = rw (toZ-ofZ w32 z f) (go z f (subst (λ (v : ℤ). v ≡ pos (natAbs v)) (sym e) n))
-  where
-    go : (z : ℤ) → SFits w32 z → z ≡ pos (natAbs z) → T (nonNeg z) × (natAbs z + 1 < 2 ^ 32)
-    go (pos n) f e = (tt, omega (arith, f .sfits))
-    go (negsuc n) f e = absurd (subst (λ (z : ℤ). T (nonNeg z)) (sym e) tt)

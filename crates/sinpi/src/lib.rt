@@ -4,13 +4,11 @@
 pub mod single;
 
 ghost use mathlib.Core.Path.{_≡_};
-ghost use mathlib.Core.Bool.{false};
-ghost use lib.Ieee.{binary64, ofBits, lt};
-ghost use Rattle.sinpi.specs.Sinpi.{turnS, quarterS, sinpiS};
+ghost use Rattle.words.specs.F64.{_⊖_, _⊗_};
+ghost use Rattle.sinpi.specs.Sinpi.{PI, turnS, sinpiS};
 use trig::k_cos;
 use trig::k_sin;
 use words::floor::floor;
-use words::whole::whole;
 
 const PI: f64 = 3.14159265358979311600e+00; /* 0x400921FB, 0x54442D18 */
 
@@ -22,24 +20,29 @@ fn turn(x: f64) -> f64
     2.0 * (h - floor(h))
 }
 
-// n, of an x that is not negative.
-fn quarter(x: f64) -> u32
-    requires { ⌜ lt x (ofBits binary64 0) ≡ false ⌝ }
-    ensures { λ r. ⌜ r ≡ quarterS x ⌝ }
+// y, for a c that is n / 2.
+fn angle(t: f64, c: f64) -> f64
+    ensures { λ r. ⌜ r ≡ (t ⊖ c) ⊗ PI ⌝ }
 {
-    (whole(4.0 * x) as u32 + 1) / 2
+    (t - c) * PI
 }
 
+// n goes by tests of t, not by the whole part of 4.0 * t: each case is then on its way before that could be worked out.
 pub fn sinpi(x: f64) -> f64
     ensures { λ r. ⌜ r ≡ sinpiS x ⌝ }
 {
     let t = turn(x);
-    let n = quarter(t);
-    let y = (t - n as f64 * 0.5) * PI;
-    match n {
-        1 => k_cos(y, 0.0),
-        2 => k_sin(-y, 0.0, 0),
-        3 => -k_cos(y, 0.0),
-        _ => k_sin(y, 0.0, 0),
+    if t < 0.25 {
+        return k_sin(angle(t, 0.0), 0.0, 0);
     }
+    if t < 0.75 {
+        return k_cos(angle(t, 0.5), 0.0);
+    }
+    if t < 1.25 {
+        return k_sin(-angle(t, 1.0), 0.0, 0);
+    }
+    if t < 1.75 {
+        return -k_cos(angle(t, 1.5), 0.0);
+    }
+    k_sin(angle(t, 2.0), 0.0, 0)
 }

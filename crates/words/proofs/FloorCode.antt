@@ -5,18 +5,18 @@ use mathlib.Core.Logic.{inl, inr}
 use Prim.Native.Nat.{ℕ, _+_, _-_, _*_, _/_, _%_, _^_, _<_, _≤_}
 use native.Mathlib.Nat.{eq-zero-or-pos, mod-eq-of-lt, mod-self, div-le-self}
 use native.Mathlib.Omega.{arith}
-use mathlib.Core.Bool.{Bool, true, false}
+use mathlib.Core.Bool.{Bool, true, false, not}
 use lib.Bits.{bitAnd, and-mask, and-high}
 use lib.Dec.{T}
 use lib.Pow as Pow
 use lib.Pow.{pow-pos}
-use lib.Ieee.{Float, Format, binary32, binary64, prec, emax, hid, top, toBits, ofBits, fits}
-use lib.Ieee.Bits.{toBits-lt, ofBits-fits}
+use lib.Ieee.{Float, Format, binary32, binary64, prec, emax, hid, top, toBits, ofBits, fits, ne, isNan, nanBits}
+use lib.Ieee.Bits.{toBits-lt, ofBits-fits, nanBits-is}
 use lib.Ieee.Exact.{HasValue}
 use borrow.Author.Tests.{le-leb, lt-leb}
 use Rattle.words.specs.Floor.{floorS}
-use Rattle.words.proofs.PatternLaws.{fieldOf, of-pattern}
-use Rattle.words.proofs.FloorValues.{sizeBelow}
+use Rattle.words.proofs.PatternLaws.{not-nan, fieldOf, of-pattern}
+use Rattle.words.proofs.FloorValues.{sizeBelow, floor-number}
 use Rattle.words.proofs.FloorLaws.{wholeFrom, no-fraction, zero-stays, tiny-falls, Split, split, clear-stays, cut-positive, cut-negative}
 
 -- the mask of the digits behind the point, for an exponent's field e: the Rust's SIG_MASK >> e
@@ -80,6 +80,10 @@ module _ (f : Format) (x : Float) (b : ℕ) (good : fits f x ≡ true) (pattern 
 
   other : (y : Float) → y ≡ floorS f (ofBits f b) → y ≡ floorS f x
   other y h = subst (λ (z : Float). y ≡ floorS f z) (of-pattern f x b good pattern) h
+
+  -- a pattern of the floor of a number is a number's
+  pub number : ne x x ≡ false → (n : ℕ) → ofBits f n ≡ floorS f x → T (not (nanBits f n))
+  number h n e = subst (λ (b : Bool). T (not b)) (sym (nanBits-is f n ∙ ap isNan e)) (floor-number f x (not-nan x h))
 
   pub whole-already : wholeFrom f ≤ fieldOf f b → x ≡ floorS f x
   whole-already h = kept (no-fraction f b h)

@@ -2,24 +2,24 @@
 --   `stays`: a whole x stays; `falls`: any other goes to the y whose size is next (`sizeBelow`);
 --   `floor-part`, `floor-plus`: the value of the floor, of an x that is not whole and of one with no minus sign;
 --   `floor-same`, `floor-differs`, `floor-whole`: the test x == floor(x) holds of the whole numbers and of no others;
---   `floor-at-most`: the floor is at most x; `floor-inf`: an infinity stays.
+--   `floor-at-most`: the floor is at most x; `floor-inf`: an infinity stays; `floor-number`: the floor of a number is a number.
 -- Assumes nothing.
 use mathlib.Core.Path.{_≡_, refl, sym, ap, _∙_, subst}
 use mathlib.Core.Logic.{inl, inr}
 use Prim.Native.Nat.{ℕ, zero, suc, _+_, _-_, _*_, _/_, _%_, _^_, _<_, _≤_}
 use native.Mathlib.Nat.{le-of-lt, lt-of-lt-of-le, lt-irrefl, eq-zero-or-pos, zero-lt-suc, zero-mul, add-zero, add-mul, mul-one, suc-mul, mul-pos, mul-right-comm, mul-mod-left, mod-one, mod-lt, div-add-mod', div-lt-iff-lt-mul, pow-succ'}
 use native.Mathlib.Omega.{arith}
-use mathlib.Core.Bool.{Bool, true, false, cond, true≢false}
+use mathlib.Core.Bool.{Bool, true, false, not, cond, true≢false}
 use lib.IntN.{ℤ, pos, negsuc}
 use lib.Dec.{T, eqb}
 use lib.Pow.{pow-pos, pow-mono}
-use lib.Ieee.{Float, inf, fin, Format, binary32, binary64, prec, up, down, ofInt, eq, le, fits}
+use lib.Ieee.{Float, nan, inf, fin, Format, binary32, binary64, prec, up, down, round, ofInt, isNan, eq, le, fits}
 use lib.Ieee.Back.{round-whole, whole-unique}
 use lib.Ieee.Exact.{HasValue}
 use lib.Ieee.Fits.{down-pos, ofInt-fits}
 use lib.Ieee.Nearest.{div-same}
 use borrow.Author.Tests.{eq-eqb, ne-eqb}
-use Rattle.rounding.proofs.Signed.{value-shorter}
+use Rattle.rounding.proofs.Signed.{Signed, value-shorter, round-signed}
 use Rattle.rounding.proofs.Order.{le-refl, eq-values}
 use Rattle.rounding.proofs.Grid.{on-grid}
 use Rattle.rounding.proofs.Exact.{round-at-most}
@@ -57,6 +57,23 @@ stays f x s d w W v h = sym (floor-at f x s d w W v ∙ rw (eq-eqb (d % w) 0 h))
 pub floor-inf : (f : Format) (s : Bool) → floorS f (inf s) ≡ inf s
 unfolding floorS
 floor-inf f s = refl
+
+-- a number stays a number
+pub floor-number : (f : Format) (x : Float) → T (not (isNan x)) → T (not (isNan (floorS f x)))
+unfolding isNan floorS
+floor-number f nan h = h
+floor-number f (inf s) h = tt
+floor-number f (fin s m e) h = go (eqb (m * up e % down e) 0) (below s (m * up e / down e))
+  where
+    rounded : (s : Bool) (x : Float) → Signed s x → T (not (isNan x))
+    rounded s nan k = absurd k
+    rounded s (inf t) k = tt
+    rounded s (fin t n d) k = tt
+
+    go : (b : Bool) (z : ℤ) → T (not (isNan (cond b (fin s m e) (ofInt f z))))
+    go true z = tt
+    go false (pos n) = unfold ofInt in rounded false (round f false n 1) (round-signed f false n 1)
+    go false (negsuc n) = unfold ofInt in rounded true (round f true (suc n) 1) (round-signed f true (suc n) 1)
 
 -- the size of the whole number next below ±(q and a fraction)
 abbrev pub sizeBelow : Bool → ℕ → ℕ

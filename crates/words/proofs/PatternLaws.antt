@@ -3,7 +3,7 @@
 use mathlib.Core.Path.{_≡_, refl, sym, ap, _∙_, subst}
 use mathlib.Core.Logic.{inl, inr}
 use Prim.Native.Nat.{ℕ, zero, suc, _+_, _-_, _*_, _/_, _%_, _^_, _<_, _≤_}
-use native.Mathlib.Nat.{add-zero, suc-mul, pow-succ', mul-assoc, eq-or-lt-of-le, zero-add, le-add-right, mod-eq-of-lt, add-mod-left, div-lt-iff-lt-mul, mul-right-comm}
+use native.Mathlib.Nat.{add-zero, suc-mul, pow-succ', mul-assoc, eq-or-lt-of-le, zero-add, le-add-right, mod-eq-of-lt, add-mod-left, div-lt-iff-lt-mul, mul-right-comm, le-trans, mod-le, add-mul, div-add-mod', div-mul-le-self, mul-add-div-right, mul-add-mod-self-right}
 use native.Mathlib.Omega.{arith}
 use mathlib.Core.Bool.{Bool, true, false, not, cond}
 use lib.IntN.{ℤ}
@@ -32,6 +32,10 @@ unfolding ne eq isNan
 not-nan nan e = subst T e tt
 not-nan (inf s) e = tt
 not-nan (fin s m d) e = tt
+
+-- what keeps the NaN gives x back where x is one
+pub nan-kept : (g : Float → Float) → g nan ≡ nan → (x : Float) → ne x x ≡ true → x ≡ g x
+nan-kept g e x h = is-nan x h ∙ sym e ∙ ap g (sym (is-nan x h))
 
 pub nan-pattern : (f : Format) (x : Float) → ne x x ≡ true → ones f * hid f + hid f / 2 ≡ toBits f x
 unfolding toBits
@@ -220,3 +224,30 @@ module _ (f : Format) (x : Float) (b : ℕ) (held : fits f x ≡ true) (e : b �
   up-to-inf h =
       ltb-false (endless f) (b % top f)
       (sym (nanBits-above f b) ∙ nanBits-is f b ∙ ap isNan of-pattern ∙ is-false (isNan x) (not-nan x h))
+
+  -- nor is it with its last k digits cleared
+  pub cut-number : (k : ℕ) → k ≤ prec f - 1 → ne x x ≡ false → T (not (nanBits f (b / 2 ^ k * 2 ^ k)))
+  cut-number k l h =
+      let K = 2 ^ k in
+      let C = 2 ^ (prec f - 1 - k) * suc (ones f) in
+      let t : top f ≡ C * K =
+      ap (λ (n : ℕ). 2 ^ n * suc (ones f)) (parts (prec f - 1) k l)
+      ∙ ap (λ (n : ℕ). n * suc (ones f)) (Pow.pow-add 2 (prec f - 1 - k) k)
+      ∙ mul-right-comm (2 ^ (prec f - 1 - k)) K (suc (ones f)) in
+      let q = b / top f in
+      let r = b % top f in
+      let e : b / K * K ≡ q * top f + r / K * K =
+      ap (λ (n : ℕ). n / K * K) (sym (div-add-mod' b (top f)) ∙ ap (λ (n : ℕ). q * n + r) t ∙ ap (λ (n : ℕ). n + r) (sym (mul-assoc q C K)))
+      ∙ ap (λ (n : ℕ). n * K) (mul-add-div-right (Pow.pow-pos k) (q * C) r)
+      ∙ add-mul (q * C) (r / K) K
+      ∙ ap (λ (n : ℕ). n + r / K * K) (mul-assoc q C K ∙ ap (λ (n : ℕ). q * n) (sym t)) in
+      pattern-not-nan f (b / K * K)
+      (subst (λ (n : ℕ). n ≤ endless f) (sym (ap (λ (n : ℕ). n % top f) e ∙ mul-add-mod-self-right q (top f) (r / K * K)))
+      (le-trans (mod-le (r / K * K) (top f)) (le-trans (div-mul-le-self r K) (up-to-inf h))))
+    where
+      parts : (p k : ℕ) → k ≤ p → p ≡ p - k + k
+      parts p k l = omega arith
+
+  -- nor is its size
+  pub size-number : ne x x ≡ false → T (not (nanBits f (b % top f)))
+  size-number h = pattern-not-nan f (b % top f) (le-trans (mod-le (b % top f) (top f)) (up-to-inf h))

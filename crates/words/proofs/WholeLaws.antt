@@ -1,5 +1,6 @@
 -- The whole part by the value of x:
 --   `whole-at`, `whole-value`: of ±d / w it is ±(d / w), where that is below 2 ^ 31, and else 0;
+--   `whole-nan`: of a NaN it is 0;
 --   `whole-neg`: of -x it is that of x, negated;
 --   `whole-natural`: of an x that is not below zero it is a natural number.
 -- Assumes nothing.
@@ -29,6 +30,10 @@ whole-at (fin t m e) s d w W v =
 
 pub whole-value : (x : Float) (s : Bool) (d w : ℕ) → 0 < w → HasValue x s d w → d / w < 2 ^ 31 → wholeS x ≡ signed s (d / w)
 whole-value x s d w W v h = whole-at x s d w W v ∙ rw (lt-ltb (d / w) (2 ^ 31) h)
+
+pub whole-nan : wholeS nan ≡ pos 0
+unfolding wholeS
+whole-nan = refl
 
 pub whole-neg : (x : Float) → wholeS (neg x) ≡ negℤ (wholeS x)
 unfolding wholeS neg

@@ -90,12 +90,14 @@ pub fn with_set_low_word(x: f64, lo: u32) -> f64
     of_bits(get_high_word(x) as u64 * 0x1_0000_0000 + lo as u64)
 }
 
-// with_set_low_word(x, 0). A NaN goes its own way, and is worked out there, so that the compiler branches to it.
+// with_set_low_word(x, 0). A NaN goes a way of its own. Its two divisions are too dear for the compiler to do them ahead: after `return x` it
+// would work out both ways and choose, and every x would wait for the choice.
 pub fn clear_low_word(x: f64) -> f64
     ensures { λ r. ⌜ r ≡ withLowWordS x 0 ⌝ }
 {
     if x != x {
-        return (x - x) / (x - x);
+        let d = x - x;
+        return d / d / d;
     }
     f64::from_bits(f64::to_bits(x) / 0x1_0000_0000 * 0x1_0000_0000)
 }

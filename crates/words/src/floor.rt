@@ -1,11 +1,10 @@
-// floor, floorf, by masks on the bits as the Rust has them.
+// floor, floorf, by masks on the bits as the Rust has them. A NaN leaves first, so that `bits_of` need not look for one on the way, and what
+// is read back from a mask's bits is known to be a number.
 ghost use mathlib.Core.Path.{_≡_};
 ghost use lib.Ieee.{binary32, binary64};
 ghost use Rattle.words.specs.Floor.{floorS};
 use crate::bits::bits_of;
 use crate::bits::bits_of_f32;
-use crate::bits::of_bits;
-use crate::bits::of_bits_f32;
 
 const SIG_MASK: u64 = 0xf_ffff_ffff_ffff;
 
@@ -18,6 +17,9 @@ const NEG_ONE_F32: f32 = -1.0;
 pub fn floor(x: f64) -> f64
     ensures { λ r. ⌜ r ≡ floorS binary64 x ⌝ }
 {
+    if x != x {
+        return x;
+    }
     let ix = bits_of(x);
     let e = ix / 0x10_0000_0000_0000 % 2048;
     if e >= 1075 {
@@ -39,14 +41,17 @@ pub fn floor(x: f64) -> f64
         return x;
     }
     if ix < 0x8000_0000_0000_0000 {
-        return of_bits(ix & !m);
+        return f64::from_bits(ix & !m);
     }
-    of_bits(ix + m & !m)
+    f64::from_bits(ix + m & !m)
 }
 
 pub fn floorf(x: f32) -> f32
     ensures { λ r. ⌜ r ≡ floorS binary32 x ⌝ }
 {
+    if x != x {
+        return x;
+    }
     let ix = bits_of_f32(x);
     let e = ix / 0x80_0000 % 256;
     if e >= 150 {
@@ -68,7 +73,7 @@ pub fn floorf(x: f32) -> f32
         return x;
     }
     if ix < 0x8000_0000 {
-        return of_bits_f32(ix & !m);
+        return f32::from_bits(ix & !m);
     }
-    of_bits_f32(ix + m & !m)
+    f32::from_bits(ix + m & !m)
 }

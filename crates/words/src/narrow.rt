@@ -5,7 +5,6 @@ ghost use lib.Ieee.{binary32, binary64, ofBits};
 ghost use lib.Ieee.Nearest.{closest};
 ghost use Rattle.words.specs.Narrow.{narrowS};
 use crate::bits::bits_of;
-use crate::bits::of_bits_f32;
 
 // d / 2^w as the nearest whole number, of two equally near the even one.
 fn nearest(d: u64, w: u64) -> u64
@@ -63,5 +62,5 @@ pub fn narrow(x: f64) -> f32
     }
     let b = bits_of(x);
     let n = narrowed(b % 0x8000_0000_0000_0000);
-    of_bits_f32((n + b / 0x8000_0000_0000_0000 * 0x8000_0000) as u32)
+    f32::from_bits((n + b / 0x8000_0000_0000_0000 * 0x8000_0000) as u32)
 }

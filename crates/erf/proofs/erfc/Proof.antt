@@ -1,20 +1,18 @@
 -- `erf::erfc` meets its contract. Assumes nothing.
-use Rattle.words.proofs.PatternLaws.{is-nan}
-use lib.Ieee.{add, sub, mul, div, ofInt, ofBits, toBits}
-use Rattle.erf.specs.Plan as Plan
-use mathlib.Core.Path.{_∙_, refl}
+use mathlib.Core.Path.{_∙_}
 use mathlib.Core.Logic.{inl, inr}
 use native.Mathlib.Omega.{arith}
 use lib.Ieee.{nanBits}
 use borrow.Author.Needs.{needs}
-use Rattle.erf.specs.Erf64.{erf64}
+use Rattle.words.proofs.PatternLaws.{nan-kept}
+use Rattle.erf.specs.Erf64.{erf64, erfcS}
+use Rattle.erf.proofs.Laws64.{erf-special}
 use Rattle.erf.proofs.ErfCode as code
 use Rattle.erf.proofs.erfc.Statement.{statement}
 use Rattle.erf.proofs.erfc.Tie as tie
 
 returns : tie.Need-returns
-unfolding Plan.erfcS add sub mul div ofInt ofBits toBits
-returns c = rw (is-nan (c .before .args .x) (c .if1 .taken)) refl
+returns c = nan-kept erfcS (erf-special .erfc-nan) _ (c .if1 .taken)
 
 size-word-requires : tie.Need-size-word-requires
 size-word-requires c κs = search needs

@@ -1,6 +1,5 @@
 -- `erff::erfcf` meets its contract. Assumes nothing.
-use Rattle.words.proofs.PatternLaws.{is-nan}
-use mathlib.Core.Path.{sym, _∙_}
+use mathlib.Core.Path.{_∙_}
 use mathlib.Core.Logic.{inl, inr}
 use native.Mathlib.Omega.{arith}
 use lib.Ieee.{nanBits}
@@ -8,13 +7,14 @@ use denote.Floats.{passes}
 use borrow.Author.Needs.{needs}
 use Rattle.erf.proofs.SignBit.{sign-exact}
 use Rattle.erf.proofs.ErfCode as code
-use Rattle.erff.specs.Erff.{erf32}
+use Rattle.words.proofs.PatternLaws.{nan-kept}
+use Rattle.erff.specs.Erff.{erf32, erfcfS}
 use Rattle.erff.proofs.Laws32.{erff-special}
 use Rattle.erff.proofs.erfcf.Statement.{statement}
 use Rattle.erff.proofs.erfcf.Tie as tie
 
 returns : tie.Need-returns
-returns c = rw (is-nan (c .before .args .x) (c .if1 .taken)) (sym (erff-special .erfc-nan))
+returns c = nan-kept erfcfS (erff-special .erfc-nan) _ (c .if1 .taken)
 
 size-bits-requires : tie.Need-size-bits-requires
 size-bits-requires c κs = search needs

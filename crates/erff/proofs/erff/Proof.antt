@@ -1,18 +1,18 @@
 -- `erff::erff` meets its contract. Assumes nothing.
-use Rattle.words.proofs.PatternLaws.{is-nan}
-use mathlib.Core.Path.{_∙_, sym}
+use mathlib.Core.Path.{_∙_}
 use lib.Ieee.{nanBits}
 use denote.Floats.{passes}
 use borrow.Author.Needs.{needs}
 use Rattle.erf.proofs.SignBit.{sign-exact}
 use Rattle.erf.proofs.ErfCode as code
-use Rattle.erff.specs.Erff.{erf32}
+use Rattle.words.proofs.PatternLaws.{nan-kept}
+use Rattle.erff.specs.Erff.{erf32, erffS}
 use Rattle.erff.proofs.Laws32.{erff-special}
 use Rattle.erff.proofs.erff.Statement.{statement}
 use Rattle.erff.proofs.erff.Tie as tie
 
 returns : tie.Need-returns
-returns c = rw (is-nan (c .before .args .x) (c .if1 .taken)) (sym (erff-special .erf-nan))
+returns c = nan-kept erffS (erff-special .erf-nan) _ (c .if1 .taken)
 
 size-bits-requires : tie.Need-size-bits-requires
 size-bits-requires c κs = search needs

@@ -1,23 +1,36 @@
 -- `erff::short` meets its contract. Assumes nothing.
-use Rattle.erf.specs.Plan.{shortS}
-use mathlib.Core.Path.{refl}
+use mathlib.Core.Path.{refl, sym, subst}
+use Prim.Native.Nat.{_^_, _<_}
 use native.Mathlib.Omega.{arith}
-use borrow.Author.Needs.{needs}
+use lib.Dec.{T, lit≤}
+use lib.Ieee.{binary32, ofBits, toBits}
+use lib.Ieee.Bits.{toBits-lt}
+use Rattle.words.proofs.PatternLaws.{nan-kept, not-nan, cut-number}
+use Rattle.erf.specs.Plan.{shortS}
+use Rattle.erff.specs.Erff.{erf32}
 use Rattle.erff.proofs.short.Statement.{statement}
 use Rattle.erff.proofs.short.Tie as tie
 
-bits-of-f32-requires : tie.Need-bits-of-f32-requires
-bits-of-f32-requires c κs = search needs
-
-mul-of-bits-f32 : tie.Need-mul-of-bits-f32
-mul-of-bits-f32 c = omega arith
-
-of-bits-f32-requires : tie.Need-of-bits-f32-requires
-of-bits-f32-requires c κs = search needs
-
 returns : tie.Need-returns
+unfolding shortS toBits ofBits
+returns c = nan-kept (shortS erf32) refl _ (c .if1 .taken)
+
+float-to-bits-result : tie.Need-float-to-bits-result
+float-to-bits-result c = not-nan _ (c .if1 .left)
+
+-- the pattern is below 2 ^ 32
+bounded : (c : tie.Else1) → toBits binary32 (c .before .args .x) < 2 ^ 32
+bounded c = toBits-lt binary32 (c .before .args .x) (subst T (sym (c .before .good .0 .1)) tt)
+
+mul-result : tie.Need-mul-result
+mul-result c = record { fits = omega (arith, bounded c) }
+
+float-from-bits-result : tie.Need-float-from-bits-result
+float-from-bits-result c = cut-number binary32 (c .before .args .x) _ (c .before .good .0 .1) refl 13 (lit≤ tt) (c .if1 .left)
+
+returns-2 : tie.Need-returns-2
 unfolding shortS
-returns c = rw (c .of-bits-f32 .ensures, c .before .bits-of-f32 .ensures) refl
+returns-2 c = refl
 
 pub short-spec : {M : Type 1} → statement M
-short-spec = tie.close (tie.spec bits-of-f32-requires mul-of-bits-f32 of-bits-f32-requires returns)
+short-spec = tie.close (tie.spec returns float-to-bits-result mul-result float-from-bits-result returns-2)

@@ -1,17 +1,14 @@
 -- `exp::exp` meets its contract. Assumes nothing.
-use mathlib.Core.Path.{refl}
-use Rattle.words.proofs.PatternLaws.{is-nan}
-use lib.Ieee.{ne, toBits}
-use Rattle.exp.specs.Exp.{specialS}
 use borrow.Author.Tests.{le-leb, lt-leb}
-use Rattle.exp.specs.Exp.{expS}
 use borrow.Author.Needs.{needs}
+use Rattle.words.proofs.PatternLaws.{nan-kept}
+use Rattle.exp.specs.Exp.{expS}
+use Rattle.exp.proofs.SpecialValues.{exp-nan}
 use Rattle.exp.proofs.exp.Statement.{statement}
 use Rattle.exp.proofs.exp.Tie as tie
 
 returns : tie.Need-returns
-unfolding expS specialS ne toBits
-returns c = rw (is-nan (c .before .args .x) (c .if1 .taken)) refl
+returns c = nan-kept expS exp-nan _ (c .if1 .taken)
 
 size-word-requires : tie.Need-size-word-requires
 size-word-requires c κs = search needs

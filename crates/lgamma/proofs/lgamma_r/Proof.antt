@@ -1,32 +1,16 @@
 -- `lgamma::lgamma_r` meets its contract. Assumes nothing.
-use mathlib.Core.Path.{_≡_, refl, _∙_}
-use lib.IntN.{pos}
-use lib.Ieee.{Float, nan, mul, toBits}
-use Rattle.words.proofs.PatternLaws.{is-nan}
-use Rattle.lgamma.specs.Plan as Plan
 use borrow.Author.Needs.{needs}
 use Rattle.lgamma.specs.Lgamma64.{lgamma64}
 use Rattle.lgamma.proofs.LgammaCode as code
+use Rattle.lgamma.proofs.SpecialValues.{lgamma-special}
 use Rattle.lgamma.proofs.lgamma_r.Statement.{statement}
 use Rattle.lgamma.proofs.lgamma_r.Tie as tie
 
 answer-requires : tie.Need-answer-requires
 answer-requires c κs = search needs
 
--- of a NaN the value is the NaN, and the sign is plus
-nan-value : (x : Float) → x ≡ nan → x ≡ Plan.lgammaS lgamma64 x .value
-unfolding Plan.lgammaS mul toBits
-nan-value x e = rw e refl
-
-nan-sign : (x : Float) → x ≡ nan → pos 1 ≡ Plan.lgammaS lgamma64 x .sign
-unfolding Plan.lgammaS toBits
-nan-sign x e = rw e refl
-
 returns : tie.Need-returns
-returns c =
-    let x = c .before .before .args .x in
-    let e = is-nan x (c .before .if1 .taken) in
-    (c .answer .ensures .0 ∙ nan-value x e, c .answer .ensures .1 ∙ nan-sign x e)
+returns c = code.not-number lgamma64 (lgamma-special .at-nan) (c .before .before .args .x) (c .before .if1 .taken) (c .answer .ensures)
 
 sign-requires : tie.Need-sign-requires
 sign-requires c κs = search needs

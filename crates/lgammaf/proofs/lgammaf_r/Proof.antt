@@ -1,12 +1,7 @@
 -- `lgammaf::lgammaf_r` meets its contract. Assumes nothing.
-use mathlib.Core.Path.{_≡_, sym, ap, _∙_}
-use lib.IntN.{pos}
-use lib.Ieee.{Float, nan}
-use Rattle.words.proofs.PatternLaws.{is-nan}
-use Rattle.lgamma.specs.Plan.{Answer}
 use borrow.Author.Needs.{needs}
 use Rattle.lgamma.proofs.LgammaCode as code
-use Rattle.lgammaf.specs.Lgammaf.{lgamma32, lgammafS}
+use Rattle.lgammaf.specs.Lgammaf.{lgamma32}
 use Rattle.lgammaf.proofs.SpecialValues.{lgammaf-special}
 use Rattle.lgammaf.proofs.lgammaf_r.Statement.{statement}
 use Rattle.lgammaf.proofs.lgammaf_r.Tie as tie
@@ -14,18 +9,8 @@ use Rattle.lgammaf.proofs.lgammaf_r.Tie as tie
 answer-requires : tie.Need-answer-requires
 answer-requires c κs = search needs
 
--- of a NaN the value is the NaN, and the sign is plus
-nan-value : (x : Float) → x ≡ nan → x ≡ lgammafS x .value
-nan-value x e = rw e (sym (ap (λ (a : Answer). a .value) (lgammaf-special .at-nan)))
-
-nan-sign : (x : Float) → x ≡ nan → pos 1 ≡ lgammafS x .sign
-nan-sign x e = rw e (sym (ap (λ (a : Answer). a .sign) (lgammaf-special .at-nan)))
-
 returns : tie.Need-returns
-returns c =
-    let x = c .before .before .args .x in
-    let e = is-nan x (c .before .if1 .taken) in
-    (c .answer .ensures .0 ∙ nan-value x e, c .answer .ensures .1 ∙ nan-sign x e)
+returns c = code.not-number lgamma32 (lgammaf-special .at-nan) (c .before .before .args .x) (c .before .if1 .taken) (c .answer .ensures)
 
 sign-f32-requires : tie.Need-sign-f32-requires
 sign-f32-requires c κs = search needs

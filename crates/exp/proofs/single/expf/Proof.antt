@@ -1,17 +1,14 @@
 -- `exp::single::expf` meets its contract. Assumes nothing.
-use mathlib.Core.Path.{refl}
-use Rattle.words.proofs.PatternLaws.{is-nan}
-use lib.Ieee.{toBits}
-use Rattle.exp.specs.Expf.{specialS}
 use borrow.Author.Tests.{le-leb, lt-leb}
-use Rattle.exp.specs.Expf.{expfS}
 use borrow.Author.Needs.{needs}
+use Rattle.words.proofs.PatternLaws.{nan-kept}
+use Rattle.exp.specs.Expf.{expfS}
+use Rattle.exp.proofs.SpecialValues.{expf-nan}
 use Rattle.exp.proofs.single.expf.Statement.{statement}
 use Rattle.exp.proofs.single.expf.Tie as tie
 
 returns : tie.Need-returns
-unfolding expfS specialS toBits
-returns c = rw (is-nan (c .before .args .x) (c .if1 .taken)) refl
+returns c = nan-kept expfS expf-nan _ (c .if1 .taken)
 
 size-bits-requires : tie.Need-size-bits-requires
 size-bits-requires c κs = search needs

@@ -1,18 +1,23 @@
 -- `words::fabs::fabsf` meets its contract. Assumes nothing.
+use mathlib.Core.Path.{refl}
 use lib.Ieee.{binary32}
-use borrow.Author.Needs.{needs}
-use Rattle.words.proofs.PatternLaws.{size-pattern}
+use Rattle.words.specs.Fabs.{fabsS}
+use Rattle.words.proofs.PatternLaws.{nan-kept, not-nan, size-number, size-pattern}
 use Rattle.words.proofs.fabs.fabsf.Statement.{statement}
 use Rattle.words.proofs.fabs.fabsf.Tie as tie
 
-bits-of-f32-requires : tie.Need-bits-of-f32-requires
-bits-of-f32-requires c κs = search needs
-
-of-bits-f32-requires : tie.Need-of-bits-f32-requires
-of-bits-f32-requires c κs = search needs
-
 returns : tie.Need-returns
-returns c = cc (size-pattern binary32 (c .before .before .args .x) (c .before .before .good .0 .1))
+unfolding fabsS
+returns c = nan-kept fabsS refl _ (c .if1 .taken)
+
+float-to-bits-result : tie.Need-float-to-bits-result
+float-to-bits-result c = not-nan _ (c .if1 .left)
+
+float-from-bits-result : tie.Need-float-from-bits-result
+float-from-bits-result c = size-number binary32 (c .before .args .x) _ (c .before .good .0 .1) refl (c .if1 .left)
+
+returns-2 : tie.Need-returns-2
+returns-2 c = size-pattern binary32 (c .before .args .x) (c .before .good .0 .1)
 
 pub fabsf-spec : {M : Type 1} → statement M
-fabsf-spec = tie.close (tie.spec bits-of-f32-requires of-bits-f32-requires returns)
+fabsf-spec = tie.close (tie.spec returns float-to-bits-result float-from-bits-result returns-2)

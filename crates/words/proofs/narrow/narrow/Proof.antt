@@ -1,10 +1,11 @@
 -- `words::narrow::narrow` meets its contract. Assumes nothing.
 use mathlib.Core.Path.{_≡_, sym, ap, _∙_}
 use native.Mathlib.Omega.{arith}
-use lib.Ieee.{div, ofBits, binary64}
+use Prim.Native.Nat.{ℕ, _+_, _*_, _/_}
+use lib.Ieee.{div, ofBits, binary32, binary64}
 use borrow.Author.Needs.{needs}
 use Rattle.words.specs.Narrow.{narrowS}
-use Rattle.words.proofs.PatternLaws.{is-nan, of-pattern, up-to-inf}
+use Rattle.words.proofs.PatternLaws.{is-nan, of-pattern, pattern-not-nan, up-to-inf}
 use Rattle.words.proofs.NarrowLaws.{narrowed-either}
 use Rattle.words.proofs.narrow.narrow.Statement.{statement}
 use Rattle.words.proofs.narrow.narrow.Tie as tie
@@ -27,24 +28,26 @@ narrowed-requires c κs =
     let a = c .before .before in
     up-to-inf binary64 (a .args .x) (c .bits-of .result) (a .good .0 .1) (c .bits-of .ensures) (c .before .if1 .left)
 
-cast-of-bits-f32 : tie.Need-cast-of-bits-f32
-cast-of-bits-f32 c = omega arith
+-- what is read back is the narrowed size with the sign of x, and no NaN
+abbrev pattern : tie.After-narrowed → ℕ
+pattern c = c .narrowed .result + c .before .bits-of .result / 0x8000000000000000 * 0x80000000
 
-mul-of-bits-f32 : tie.Need-mul-of-bits-f32
-mul-of-bits-f32 c = search needs
+mul-result : tie.Need-mul-result
+mul-result c = search needs
 
-add-of-bits-f32 : tie.Need-add-of-bits-f32
-add-of-bits-f32 c = search needs
+add-result : tie.Need-add-result
+add-result c = search needs
 
-of-bits-f32-requires : tie.Need-of-bits-f32-requires
-of-bits-f32-requires c κs = search needs
+cast-result : tie.Need-cast-result
+cast-result c = omega arith
+
+float-from-bits-result : tie.Need-float-from-bits-result
+float-from-bits-result c = pattern-not-nan binary32 (pattern c) (omega arith)
 
 returns-2 : tie.Need-returns-2
 returns-2 c =
-    let a = c .before in
-    c .of-bits-f32 .ensures
-    ∙ narrowed-either (a .before .bits-of .result) (a .narrowed .result) (omega arith) (a .narrowed .ensures)
-    ∙ ap narrowS (held (a .before))
+    narrowed-either (c .before .bits-of .result) (c .narrowed .result) (omega arith) (c .narrowed .ensures)
+    ∙ ap narrowS (held (c .before))
 
 pub narrow-spec : {M : Type 1} → statement M
 narrow-spec =
@@ -53,8 +56,8 @@ narrow-spec =
     returns
     bits-of-requires
     narrowed-requires
-    mul-of-bits-f32
-    add-of-bits-f32
-    cast-of-bits-f32
-    of-bits-f32-requires
+    mul-result
+    add-result
+    cast-result
+    float-from-bits-result
     returns-2)
