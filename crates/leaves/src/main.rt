@@ -23,6 +23,8 @@
 // 84 tgamma
 //
 // An argument or an answer of 32 bits is the low half of its u64, and an i32 is its two's complement.
+use digits::get;
+use digits::put;
 use erf::erf;
 use erf::erfc;
 use erff::erfcf;
@@ -65,7 +67,7 @@ use words::floor::floorf;
 use words::narrow::narrow;
 use words::whole::whole;
 use words::whole::wholef;
-ghost use Prim.Native.Nat.{_+_, _*_, _≤_, _<_};
+ghost use Prim.Native.Nat.{_+_, _*_, _≤_};
 ghost use lib.ListN.{length};
 
 const UNKNOWN: u64 = 0xffff_ffff_ffff_ffff;
@@ -287,64 +289,17 @@ fn answer(leaf: u64, a: u64, b: u64) -> u64 {
     gamma_leaf(leaf, of_bits(a))
 }
 
-fn wide(x: u8) -> u64
-    ensures { λ r. ⌜ r < 256 ⌝ }
-{
-    x as u64
-}
-
-// The number that the four bytes from `at` on make.
-fn get_half(s: &[u8], at: usize) -> u64
-    requires { ⌜ at + 4 ≤ length (now s) ⌝ }
-    ensures { λ r. ⌜ r < 0x1_0000_0000 ⌝ }
-{
-    wide(s[at])
-        + wide(s[at + 1]) * 0x100
-        + wide(s[at + 2]) * 0x1_0000
-        + wide(s[at + 3]) * 0x100_0000
-}
-
-fn get(s: &[u8], at: usize) -> u64
-    requires { ⌜ at + 8 ≤ length (now s) ⌝ }
-{
-    get_half(s, at) + get_half(s, at + 4) * 0x1_0000_0000
-}
-
-// Writes the lowest byte of `x` at `at`.
-fn put_byte(s: &mut [u8], at: usize, x: u64)
-    requires { ⌜ at < length (now s) ⌝ }
-{
-    s[at] = (x % 0x100) as u8;
-}
-
-// Writes the four lowest bytes of `x` from `at` on.
-fn put_half(s: &mut [u8], at: usize, x: u64)
-    requires { ⌜ at + 4 ≤ length (now s) ⌝ }
-{
-    put_byte(s, at, x);
-    put_byte(s, at + 1, x / 0x100);
-    put_byte(s, at + 2, x / 0x1_0000);
-    put_byte(s, at + 3, x / 0x100_0000);
-}
-
-fn put(s: &mut [u8], at: usize, x: u64)
-    requires { ⌜ at + 8 ≤ length (now s) ⌝ }
-{
-    put_half(s, at, x);
-    put_half(s, at + 4, x / 0x1_0000_0000);
-}
-
 // Answers request number i.
 fn answer_at(requests: &[u8], i: usize, answers: &mut [u8])
     requires { ⌜ (i * 24 + 24 ≤ length (now requests)) × (i * 8 + 8 ≤ length (now answers)) ⌝ }
 {
     let at = i * 24;
     let bits = answer(
-        get(requests, at),
-        get(requests, at + 8),
-        get(requests, at + 16),
+        get(requests, at, 8),
+        get(requests, at + 8, 8),
+        get(requests, at + 16, 8),
     );
-    put(answers, i * 8, bits);
+    put(answers, i * 8, 8, bits);
 }
 
 // Answers the first `count` requests.

@@ -4,8 +4,8 @@ use mathlib.Core.List.{List}
 use Prim.Native.Nat.{ℕ, _*_, _≤_}
 use native.Mathlib.Omega.{arith}
 use lib.ListN.{length, take}
-use Rattle.stream.specs.Kinds.{table}
-use Rattle.stream.proofs.KindLaws.{enough-room}
+use Rattle.replies.specs.Table.{table}
+use Rattle.stream.proofs.BatchLaws.{enough-room}
 use Rattle.stream.proofs.LoopLaws.{front-in, front-length}
 use Rattle.serve.specs.Turn.{Turned}
 use Rattle.serve.specs.declared.relay.Round.{Round}

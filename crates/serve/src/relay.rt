@@ -30,12 +30,13 @@ pub(crate) fn turn(buf: &mut [u8], have: usize, answers: &mut [u8]) -> Round
     ensures { λ r. ⌜ Turned (take have (now (buf .entry))) (now (answers .entry)) r (now (buf .exit)) (now (answers .exit)) ⌝ }
 {
     let t = batch(&buf[..have], answers);
-    let read = t.read;
+    let n = t.tally;
+    let read = n.read;
     let kept = have - read;
     shift(buf, read, kept);
     Round {
         code: t.code,
         kept,
-        written: t.written,
+        written: n.written,
     }
 }

@@ -4,8 +4,9 @@ use Prim.Native.Nat.{ℕ, _≤_}
 use native.Mathlib.Omega.{arith}
 use lib.ListN.{length, take, drop}
 use lib.Seq.{length-take-le}
-use Rattle.stream.specs.Kinds.{table}
+use Rattle.replies.specs.Table.{table}
 use Rattle.stream.specs.Run.{run}
+use Rattle.stream.specs.declared.Tally.{Tally}
 use Rattle.stream.proofs.RunLaws.{run-within}
 use Rattle.serve.proofs.ShiftLaws.{take-drop}
 use borrow.Author.Needs.{needs}
@@ -25,21 +26,21 @@ batch-requires c κs = search needs
 
 sub-kept : tie.Need-sub-kept
 sub-kept c =
-    let a = c .before .before .before .before .before .before .before .args in
-    let t = c .before .before .batch in
-    let h = length-take-le (a .have) (a .buf .now) (c .before .before .before .before .before .before .before .pre) in
-    let o = run table (take (a .have) (a .buf .now)) (length (a .answers .now)) in
-    let w = run-within table (take (a .have) (a .buf .now)) (length (a .answers .now)) in
-    omega (arith, t .ensures .read)
-
-shift-requires : tie.Need-shift-requires
-shift-requires c κs =
     let a = c .before .before .before .before .before .before .before .before .args in
     let t = c .before .before .before .batch in
     let h = length-take-le (a .have) (a .buf .now) (c .before .before .before .before .before .before .before .before .pre) in
     let o = run table (take (a .have) (a .buf .now)) (length (a .answers .now)) in
     let w = run-within table (take (a .have) (a .buf .now)) (length (a .answers .now)) in
-    omega (arith, t .ensures .read)
+    omega (arith, ap (λ (n : Tally). n .read) (t .ensures .tally))
+
+shift-requires : tie.Need-shift-requires
+shift-requires c κs =
+    let a = c .before .before .before .before .before .before .before .before .before .args in
+    let t = c .before .before .before .before .batch in
+    let h = length-take-le (a .have) (a .buf .now) (c .before .before .before .before .before .before .before .before .before .pre) in
+    let o = run table (take (a .have) (a .buf .now)) (length (a .answers .now)) in
+    let w = run-within table (take (a .have) (a .buf .now)) (length (a .answers .now)) in
+    omega (arith, ap (λ (n : Tally). n .read) (t .ensures .tally))
 
 same-length : tie.Need-same-length
 same-length c = search needs
@@ -49,17 +50,17 @@ same-length-2 c = search needs
 
 returns : tie.Need-returns
 returns c =
-    let a = c .before .before .before .before .before .before .before .before .before .before .before .args in
-    let t = c .before .before .before .before .before .before .batch in
-    let h = length-take-le (a .have) (a .buf .now) (c .before .before .before .before .before .before .before .before .before .before .before .pre) in
+    let a = c .before .before .before .before .before .before .before .before .before .before .before .before .args in
+    let t = c .before .before .before .before .before .before .before .batch in
+    let h = length-take-le (a .have) (a .buf .now) (c .before .before .before .before .before .before .before .before .before .before .before .before .pre) in
     let o = run table (take (a .have) (a .buf .now)) (length (a .answers .now)) in
     let w = run-within table (take (a .have) (a .buf .now)) (length (a .answers .now)) in
-    let le : t .result .read ≤ a .have = omega (arith, t .ensures .read) in
+    let le : t .result .tally .read ≤ a .have = omega (arith, ap (λ (n : Tally). n .read) (t .ensures .tally)) in
     record {
       code = t .ensures .code;
-      written = t .ensures .written;
-      kept = omega (arith, t .ensures .read);
-      rest = c .before .before .shift .ensures ∙ take-drop (a .buf .now) (t .result .read) (a .have) le (c .before .before .before .before .before .before .before .before .before .before .before .pre) ∙ ap (λ (k : ℕ). drop k (take (a .have) (a .buf .now))) (t .ensures .read);
+      written = ap (λ (n : Tally). n .written) (t .ensures .tally);
+      kept = omega (arith, ap (λ (n : Tally). n .read) (t .ensures .tally));
+      rest = c .before .before .shift .ensures ∙ take-drop (a .buf .now) (t .result .tally .read) (a .have) le (c .before .before .before .before .before .before .before .before .before .before .before .before .pre) ∙ ap (λ (k : ℕ). drop k (take (a .have) (a .buf .now))) (ap (λ (n : Tally). n .read) (t .ensures .tally));
       answers = t .ensures .buffer;
     }
 
