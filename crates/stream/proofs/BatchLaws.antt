@@ -17,6 +17,7 @@ use Rattle.replies.proofs.TableLaws.{row-width, reply-light, reply-whole}
 use Rattle.stream.specs.Run.{run}
 use Rattle.stream.proofs.RoomLaws.{Light, run-easy, run-same}
 use Rattle.stream.proofs.PieceLaws.{whole, pieces, Roomy, pieces-are-whole}
+use Rattle.stream.proofs.StopLaws.{Narrow}
 
 -- the reply to the body of a record, by the code's steps: how many bytes the body has, their number, and the reply to it
 pub answered : (s : List ℕ) (at w k b : ℕ) (r : Reply) → ((i : ℕ) → getD s i 0 < 256) → w ≡ shapeOf k .body → b ≡ word 8 (take w (drop at s)) → r ≡ replyS k b →
@@ -31,6 +32,9 @@ answered s at w k b r h ew eb er =
 
 pub table-light : Light table
 table-light = reply-light
+
+pub table-narrow : Narrow 8 table
+table-narrow k = omega (arith, row-width k, body-small k)
 
 -- with room for twice the requests a batch never stops with code 3
 pub enough-room : (s : List ℕ) (room : ℕ) → 2 * length s ≤ room → run table s room .code ≤ 2
