@@ -1,3 +1,6 @@
--- What a move within a buffer keeps, and what a turn leaves its caller.
+-- What a move within a buffer keeps (ShiftLaws), what a turn is (PassLaws), what the loop keeps (LoopLaws), and what the program does over
+-- all that the outside does (SessionLaws).
 pub mod ShiftLaws
-pub mod TurnLaws
+pub mod PassLaws
+pub mod LoopLaws
+pub mod SessionLaws

@@ -37,4 +37,6 @@ moved-more first b from count i h l m =
 pub take-drop : (l : List ℕ) (k n : ℕ) → k ≤ n → n ≤ length l → take (n - k) (drop k l) ≡ drop k (take n l)
 take-drop l k n h e =
     let q : k + (n - k) ≡ n = omega arith in
-    sym (ap (λ (m : ℕ). drop k (take m l)) (sym q) ∙ ap (drop k) (take-add k (n - k) l) ∙ drop-at (take k l) (take (n - k) (drop k l)) k (length-take-le k l (omega arith)))
+    sym
+    (ap (λ (m : ℕ). drop k (take m l)) (sym q) ∙ ap (drop k) (take-add k (n - k) l)
+    ∙ drop-at (take k l) (take (n - k) (drop k l)) k (length-take-le k l (omega arith)))

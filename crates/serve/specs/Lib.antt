@@ -1,3 +1,4 @@
--- What a turn of the program does, and how the program can end.
+-- What the program does. Read in this order.
+pub mod Session
 pub mod Turn
-pub mod End
+pub mod Post

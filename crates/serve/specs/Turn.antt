@@ -1,4 +1,4 @@
--- A turn: a batch over the bytes s in the input buffer, which then has the unread rest at its front.
+-- What a turn leaves in the buffers: a batch over the bytes s in the input buffer, which then has the unread rest at its front.
 use mathlib.Core.Path.{_≡_}
 use mathlib.Core.List.{List}
 use Prim.Native.Nat.{ℕ, _-_}
@@ -12,5 +12,4 @@ pub record Turned (s before : List ℕ) (r : Round) (b after : List ℕ) : Type 
   pub code : r .code ≡ batchS s before .code
   pub kept : r .kept ≡ length s - batchS s before .tally .read
   pub rest : take (r .kept) b ≡ drop (batchS s before .tally .read) s
-  pub written : r .written ≡ batchS s before .tally .written
   pub answers : after ≡ sets before 0 (batchS s before .bytes)

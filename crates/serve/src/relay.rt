@@ -1,15 +1,16 @@
-// One turn of the program: what stands in the input buffer is answered, and the unread rest moves to the front.
+// A turn of the program: what stands in the input buffer is answered, the answers are sent, and the unread rest moves to the front.
+use crate::port::send;
 use stream::batch;
 ghost use mathlib.Core.Path.{_≡_};
 ghost use Prim.Native.Nat.{_+_, _≤_};
 ghost use lib.ListN.{length, take, drop};
 ghost use Rattle.serve.specs.Turn.{Turned};
 
-// Why a turn stopped, how many unread bytes it kept, and how many bytes it wrote.
+// Why the batch of a turn stopped, how many unread bytes are kept, and whether the answers were taken.
 pub(crate) struct Round {
     pub(crate) code: u8,
     pub(crate) kept: usize,
-    pub(crate) written: usize,
+    pub(crate) sent: bool,
 }
 
 // Moves the `count` bytes from `from` on to the front.
@@ -24,19 +25,20 @@ fn shift(buf: &mut [u8], from: usize, count: usize)
     }
 }
 
-// Answers the first `have` bytes of `buf` in `answers`.
-pub(crate) fn turn(buf: &mut [u8], have: usize, answers: &mut [u8]) -> Round
+// Answers the first `have` bytes of `buf` in `answers`, and sends the answers.
+pub(crate) fn answer(buf: &mut [u8], have: usize, answers: &mut [u8]) -> Round
     requires { ⌜ have ≤ length (now buf) ⌝ }
     ensures { λ r. ⌜ Turned (take have (now (buf .entry))) (now (answers .entry)) r (now (buf .exit)) (now (answers .exit)) ⌝ }
 {
     let t = batch(&buf[..have], answers);
-    let n = t.tally;
-    let read = n.read;
+    let written = t.tally.written;
+    let sent = send(&buf[..have], answers.len(), &answers[..written]);
+    let read = t.tally.read;
     let kept = have - read;
     shift(buf, read, kept);
     Round {
         code: t.code,
         kept,
-        written: n.written,
+        sent,
     }
 }

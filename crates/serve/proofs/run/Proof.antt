@@ -1,7 +1,13 @@
--- `serve::run` meets its contract. Assumes nothing.
-use mathlib.Core.Path.{refl}
-use mathlib.Core.Logic.{inr}
+-- `serve::run` meets its contract: the turns, the closing bytes, and what became of them. Assumes nothing.
+use mathlib.Core.Path.{sym, ap, _∙_}
+use Prim.Native.Nat.{ℕ, _≤_}
+use native.Mathlib.Omega.{arith}
 use borrow.Author.Needs.{needs}
+use lib.ListN.{length, take, length-replicate}
+use lib.Seq.{length-take-le}
+use Rattle.decide.specs.declared.Last.{Last}
+use Rattle.decide.proofs.DecideLaws.{closing-in, closing-front}
+use Rattle.serve.proofs.LoopLaws.{served}
 use Rattle.serve.proofs.run.Statement.{statement}
 use Rattle.serve.proofs.run.Tie as tie
 
@@ -17,20 +23,34 @@ slice-aggregate-turns-2 c = search needs
 turns-requires : tie.Need-turns-requires
 turns-requires c κs = search needs
 
+closing-requires : tie.Need-closing-requires
+closing-requires c κs = search needs
+
+-- the part of the two bytes that closes the output
+inside : (c : tie.After-closing) → c .closing .result .length ≤ length (c .closing .result .bytes)
+inside c =
+    let e = c .closing .ensures in
+    omega (arith, ap (λ (x : Last). x .length) e, ap (λ (x : Last). length (x .bytes)) e, closing-in (c .before .before .before .turns .result))
+
+array-share-prefix-bytes : tie.Need-array-share-prefix-bytes
+array-share-prefix-bytes c = inside (c .before)
+
+slice-aggregate-close : tie.Need-slice-aggregate-close
+slice-aggregate-close c = let l = c .before .before .closing .result in sym (length-take-le (l .length) (l .bytes) (inside (c .before .before)))
+
+close-requires : tie.Need-close-requires
+close-requires c κs =
+    let l = c .before .before in
+    ap (λ (x : Last). take (x .length) (x .bytes)) (l .closing .ensures) ∙ closing-front (l .before .before .before .turns .result)
+
+end-requires : tie.Need-end-requires
+end-requires c κs = search needs
+
 returns : tie.Need-returns
-returns c = inr refl
-
-slice-aggregate-write-all : tie.Need-slice-aggregate-write-all
-slice-aggregate-write-all c = search needs
-
-write-all-requires : tie.Need-write-all-requires
-write-all-requires c κs = search needs
-
-returns-2 : tie.Need-returns-2
-returns-2 c = inr refl
-
-returns-3 : tie.Need-returns-3
-returns-3 c = search needs
+returns c =
+    let t = c .before .before .before .before .before .before .before in
+    served _ _ (t .turns .result) (c .end .result) (c .before .close .result) (length-replicate {A = ℕ} 32768 0)
+    (sym (t .before .before .before .large-buffer .ensures)) (t .turns .ensures) (c .end .ensures)
 
 pub run-spec : {M : Type 1} → statement M
 run-spec =
@@ -40,8 +60,9 @@ run-spec =
     slice-aggregate-turns
     slice-aggregate-turns-2
     turns-requires
-    returns
-    slice-aggregate-write-all
-    write-all-requires
-    returns-2
-    returns-3)
+    closing-requires
+    array-share-prefix-bytes
+    slice-aggregate-close
+    close-requires
+    end-requires
+    returns)

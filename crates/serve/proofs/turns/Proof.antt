@@ -1,26 +1,66 @@
--- `serve::turns` meets its contract: the turns are counted down, and the buffers keep their lengths. Assumes nothing.
-use Prim.Native.Nat.{_≤_}
-use mathlib.Core.Path.{_≡_, refl}
-use mathlib.Core.Logic.{inl, inr}
+-- `serve::turns` meets its contract: the turns are counted down, the buffers keep their lengths, and the events so far are the program's.
+-- Assumes nothing.
+use mathlib.Core.Path.{_≡_, refl, _∙_, subst}
+use Prim.Native.Nat.{ℕ, _≤_}
+use native.Mathlib.Omega.{arith}
 use borrow.Author.Needs.{needs}
-use lib.ListN.{length}
+use lib.ListN.{length, take}
+use Rattle.serve.specs.Post.{Passed}
+use Rattle.serve.proofs.LoopLaws.{Going, going-none, going-out, going-close, going-break, going-on}
 use Rattle.serve.proofs.turns.Statement.{statement}
 use Rattle.serve.proofs.turns.Tie as tie
 
 abbrev Inv-loop : tie.InvT-loop
-Inv-loop buf₀ answers₀ have₀ turns₀ buf answers have turns = (have ≤ length buf) × ((length buf ≡ length buf₀) × (length answers ≡ length answers₀))
+Inv-loop buf₀ answers₀ have₀ turns₀ buf answers have turns =
+    ((have ≤ 8) × ((length buf ≡ length buf₀) × (length answers ≡ length answers₀))) × Going (length buf₀) (length answers₀) (take have buf)
 
 abbrev μ-loop : tie.MeasureT-loop
 μ-loop buf₀ answers₀ have₀ turns₀ buf answers have turns = turns
 
+-- what is known after a turn
+abbrev start : tie.After-pass Inv-loop μ-loop → tie.Start Inv-loop μ-loop
+start c = c .before .before .before .before .before .before .before
+
+abbrev at : (c : tie.After-pass Inv-loop μ-loop) → tie.At-loop Inv-loop μ-loop
+at c = c .before .before .before .before
+
+passed : (c : tie.After-pass Inv-loop μ-loop) →
+    Passed (length (start c .args .answers .now)) (take (at c .loop .have) (at c .loop .buf)) (c .pass .result) (c .pass .last .0)
+passed c =
+    let l = at c .loop in
+    subst (λ (k : ℕ). Passed k (take (l .have) (l .buf)) (c .pass .result) (c .pass .last .0)) (l .inv .0 .1 .1) (c .pass .ensures)
+
+same : (c : tie.After-pass Inv-loop μ-loop) → length (c .pass .last .0) ≡ length (start c .args .buf .now)
+same c = c .pass .kept .0 ∙ at c .loop .inv .0 .1 .0
+
 loop-holds : tie.Need-loop-holds Inv-loop μ-loop
-loop-holds c = search needs
+loop-holds c = ((omega arith, (refl, refl)), going-none (length (c .before .before .args .buf .now)) (length (c .before .before .args .answers .now)))
 
 sub-turns : tie.Need-sub-turns Inv-loop μ-loop
 sub-turns c = search needs
 
 pass-requires : tie.Need-pass-requires Inv-loop μ-loop
 pass-requires c κs = search needs
+
+enum-known-kept : tie.Need-enum-known-kept Inv-loop μ-loop
+enum-known-kept c = search needs
+
+loop-less : tie.Need-loop-less Inv-loop μ-loop
+loop-less c = search needs
+
+loop-again : tie.Need-loop-again Inv-loop μ-loop
+loop-again c =
+    let k = c .before .kept in
+    let p = c .before .before .before .before .before .before .before in
+    let a = start p .args in
+    let l = at p .loop in
+    let g =
+    going-on (length (a .buf .now)) (length (a .answers .now)) (take (l .have) (l .buf)) (l .inv .1) (p .pass .result) (p .pass .last .0)
+    (passed p) (same p) (k .given .0 .0) (k .given .1) (start p .pre .1) in
+    ((omega (arith, g .0), (same p, p .pass .kept .1 .1 .0 ∙ l .inv .0 .1 .1)), g .1)
+
+enum-known-code : tie.Need-enum-known-code Inv-loop μ-loop
+enum-known-code c = search needs
 
 same-length : tie.Need-same-length Inv-loop μ-loop
 same-length c = search needs
@@ -29,7 +69,16 @@ same-length-2 : tie.Need-same-length-2 Inv-loop μ-loop
 same-length-2 c = search needs
 
 returns : tie.Need-returns Inv-loop μ-loop
-returns c = inr refl
+returns c =
+    let k = c .before .code in
+    let p = c .before .before .before .before .before .before .before in
+    let a = start p .args in
+    let l = at p .loop in
+    going-close (length (a .buf .now)) (length (a .answers .now)) (take (l .have) (l .buf)) (l .inv .1) (p .pass .result) (p .pass .last .0)
+    (passed p) (same p) (k .given .0 .0) (k .given .1)
+
+enum-told : tie.Need-enum-told Inv-loop μ-loop
+enum-told c = search needs
 
 same-length-3 : tie.Need-same-length-3 Inv-loop μ-loop
 same-length-3 c = search needs
@@ -38,13 +87,12 @@ same-length-4 : tie.Need-same-length-4 Inv-loop μ-loop
 same-length-4 c = search needs
 
 returns-2 : tie.Need-returns-2 Inv-loop μ-loop
-returns-2 c = inl (search needs)
-
-loop-less : tie.Need-loop-less Inv-loop μ-loop
-loop-less c = search needs
-
-loop-again : tie.Need-loop-again Inv-loop μ-loop
-loop-again c = search needs
+returns-2 c =
+    let p = c .before .before .before .before .before .before in
+    let a = start p .args in
+    let l = at p .loop in
+    going-break (length (a .buf .now)) (length (a .answers .now)) (take (l .have) (l .buf)) (l .inv .1) (p .pass .result) (p .pass .last .0)
+    (passed p) (same p) (c .enum-told .given .1)
 
 same-length-5 : tie.Need-same-length-5 Inv-loop μ-loop
 same-length-5 c = search needs
@@ -53,7 +101,10 @@ same-length-6 : tie.Need-same-length-6 Inv-loop μ-loop
 same-length-6 c = search needs
 
 returns-3 : tie.Need-returns-3 Inv-loop μ-loop
-returns-3 c = inr refl
+returns-3 c =
+    let l = c .before .loop in
+    let a = c .before .before .before .before .args in
+    going-out (length (a .buf .now)) (length (a .answers .now)) (take (l .have) (l .buf)) (l .inv .1)
 
 pub turns-spec : {M : Type 1} → statement M
 turns-spec =
@@ -64,14 +115,17 @@ turns-spec =
     loop-holds
     sub-turns
     pass-requires
+    enum-known-kept
+    loop-less
+    loop-again
+    enum-known-code
     same-length
     same-length-2
     returns
+    enum-told
     same-length-3
     same-length-4
     returns-2
-    loop-less
-    loop-again
     same-length-5
     same-length-6
     returns-3)

@@ -1,0 +1,2 @@
+-- What the program decides.
+pub mod Decide
