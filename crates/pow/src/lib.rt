@@ -3,13 +3,18 @@
 // +-1, 2 or 0.5; x = +-0, +-inf or +-1; x < 0, where a y that is no whole number gives NaN and an odd one a minus sign; |y| beyond 2^31, where
 // all but an x close to 1 overflows or vanishes.
 ghost use mathlib.Core.Path.{_≡_};
-ghost use mathlib.Core.Bool.{not, _&&_, _||_};
+ghost use mathlib.Core.Bool.{true, not, _&&_, _||_};
 ghost use Prim.Native.Nat.{_%_, _^_, _<_};
-ghost use Rattle.words.specs.Tests.{_=?_};
-ghost use Rattle.pow.specs.Pow.{nanWords, parityS, yisintS, hugeS, signedS, plainS, turnedS, specialXS, finiteS, infiniteS, specialYS, powAtS, powS};
+ghost use lib.Ieee.{Float};
+ghost use Rattle.words.specs.F64.{1·0, -1·0};
+ghost use Rattle.words.specs.Pick.{if_then_else_};
+ghost use Rattle.words.specs.Tests.{_<?_, _>?_, _≤?_, _=?_, _≠?_};
+ghost use Rattle.pow_log.specs.Log2.{nearOneS, log2S};
+ghost use Rattle.pow.specs.Pow.{negative, nanWords, parityS, yisintS, hugeS, signedS, plainS, turnedS, specialXS, finiteS, infiniteS, specialYS, powAtS, powS};
 use pow_exp::HUGE;
 use pow_exp::TINY;
 use pow_exp::product;
+use pow_log::Parts;
 use pow_log::log2;
 use pow_log::near_one;
 use sqrt::sqrt;
@@ -54,10 +59,27 @@ fn yisint(hx: u32, iy: u32, ly: u32) -> u32
     0
 }
 
-// |y| > 2^31
-fn huge(s: f64, ax: f64, y: f64, ix: u32, hy: u32) -> f64
-    requires { ⌜ 0x41E00000 < hy % 2 ^ 31 ⌝ }
-    ensures { λ r. ⌜ r ≡ hugeS s ax y ix hy ⌝ }
+// Whether |y| is HUGE and x not close enough to 1: x^y is beyond the range, up or down.
+fn is_far(ix: u32, hy: u32) -> bool
+    ensures { λ r. ⌜ r ≡ (hy % 2 ^ 31 >? 0x41E00000 && (hy % 2 ^ 31 >? 0x43F00000 || ix <? 0x3FEFFFFF || ix >? 0x3FF00000)) ⌝ }
+{
+    let iy = hy % 0x8000_0000;
+    if iy <= 0x41e0_0000 {
+        return false;
+    }
+    if iy > 0x43f0_0000 {
+        return true;
+    }
+    if ix < 0x3fef_ffff {
+        return true;
+    }
+    ix > 0x3ff0_0000
+}
+
+// What x^y is there, whatever the rest of ax and y.
+fn far(s: f64, ix: u32, hy: u32) -> f64
+    requires { ⌜ (hy % 2 ^ 31 >? 0x41E00000 && (hy % 2 ^ 31 >? 0x43F00000 || ix <? 0x3FEFFFFF || ix >? 0x3FF00000)) ≡ true ⌝ }
+    ensures { λ r. ⌜ ((ax y : Float) → r ≡ hugeS s ax y ix hy) ⌝ }
 {
     if hy % 0x8000_0000 > 0x43f0_0000 {
         // |y| > 2^64
@@ -78,38 +100,49 @@ fn huge(s: f64, ax: f64, y: f64, ix: u32, hy: u32) -> f64
         }
         return s * TINY * TINY;
     }
-    if ix > 0x3ff0_0000 {
-        if hy < 0x8000_0000 {
-            return s * HUGE * HUGE;
-        }
-        return s * TINY * TINY;
+    if hy < 0x8000_0000 {
+        return s * HUGE * HUGE;
     }
-    product(s, y, near_one(ax))
+    s * TINY * TINY
 }
 
-// s times ax to the power of y, where neither is special.
+// log2 of ax, for a HUGE |y| of an ax close to 1.
+fn log_of(ax: f64, ix: u32, hy: u32) -> Parts
+    ensures { λ r. ⌜ r ≡ (if hy % 2 ^ 31 >? 0x41E00000 then nearOneS ax else log2S ax ix) ⌝ }
+{
+    if hy % 0x8000_0000 > 0x41e0_0000 {
+        return near_one(ax);
+    }
+    log2(ax, ix)
+}
+
+// s times ax to the power of y, where neither is special. log_of stands between so that `product`, the second half of pow, is called once.
 fn signed(s: f64, ax: f64, y: f64, ix: u32, hy: u32) -> f64
     ensures { λ r. ⌜ r ≡ signedS s ax y ix hy ⌝ }
 {
-    if hy % 0x8000_0000 > 0x41e0_0000 {
-        return huge(s, ax, y, ix, hy);
+    if is_far(ix, hy) {
+        return far(s, ix, hy);
     }
-    product(s, y, log2(ax, ix))
+    product(s, y, log_of(ax, ix, hy))
+}
+
+// The sign of the result: minus for x < 0 and an odd y.
+fn sign_of(hx: u32, yisint: u32) -> f64
+    ensures { λ r. ⌜ r ≡ (if negative hx && yisint =? 1 then -1·0 else 1·0) ⌝ }
+{
+    if hx < 0x8000_0000 {
+        return 1.0;
+    }
+    if yisint == 1 { NEG_ONE } else { 1.0 }
 }
 
 fn plain(x: f64, y: f64, hx: u32, hy: u32, yisint: u32) -> f64
     ensures { λ r. ⌜ r ≡ plainS x y hx hy yisint ⌝ }
 {
-    if hx < 0x8000_0000 {
-        return signed(1.0, fabs(x), y, hx, hy);
-    }
-    if yisint == 0 {
+    if hx >= 0x8000_0000 && yisint == 0 {
         return (x - x) / (x - x);
     }
-    if yisint == 1 {
-        return signed(NEG_ONE, fabs(x), y, hx - 0x8000_0000, hy);
-    }
-    signed(1.0, fabs(x), y, hx - 0x8000_0000, hy)
+    signed(sign_of(hx, yisint), fabs(x), y, hx % 0x8000_0000, hy)
 }
 
 // The sign of a power z of +-0, +-inf, +-1.
@@ -257,15 +290,31 @@ fn pow_at(x: f64, y: f64, hx: u32, lx: u32, hy: u32, ly: u32) -> f64
     special_y(x, y, hx, lx, hy, ly)
 }
 
+// Whether 1 < x < inf and |y| <= 2^31, and y has digits in its low word: none of the special cases.
+fn is_usual(hx: u32, hy: u32, ly: u32) -> bool
+    ensures { λ r. ⌜ r ≡ (hx >? 0x3FF00000 && hx <? 0x7FF00000 && ly ≠? 0 && hy % 2 ^ 31 ≤? 0x41E00000) ⌝ }
+{
+    if hx <= 0x3ff0_0000 {
+        return false;
+    }
+    if hx >= 0x7ff0_0000 {
+        return false;
+    }
+    if ly == 0 {
+        return false;
+    }
+    hy % 0x8000_0000 <= 0x41e0_0000
+}
+
+// What is none of the special cases, as it is nearly always, does not pass through their tests.
 pub fn pow(x: f64, y: f64) -> f64
     ensures { λ r. ⌜ r ≡ powS x y ⌝ }
 {
-    pow_at(
-        x,
-        y,
-        get_high_word(x),
-        get_low_word(x),
-        get_high_word(y),
-        get_low_word(y),
-    )
+    let hx = get_high_word(x);
+    let hy = get_high_word(y);
+    let ly = get_low_word(y);
+    if is_usual(hx, hy, ly) {
+        return signed(1.0, x, y, hx, hy);
+    }
+    pow_at(x, y, hx, get_low_word(x), hy, ly)
 }

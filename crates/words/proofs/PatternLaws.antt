@@ -114,6 +114,10 @@ size-pattern f (fin s m e) q =
     let h = fits-any-sign f s false m e (subst T (sym q) tt) in
     ap (ofBits f) (unsigned-rest f s m e h) ∙ ofBits-toBits f (fin false m e) h
 
+-- with no sign bit x is its own size
+pub fabs-plus : (f : Format) (x : Float) → fits f x ≡ true → toBits f x < top f → fabsS x ≡ x
+fabs-plus f x q h = sym (size-pattern f x q) ∙ ap (ofBits f) (mod-eq-of-lt h) ∙ ofBits-toBits f x (subst T (sym q) tt)
+
 -- ---- an f64 with one word cleared
 pub low-cleared : (x : Float) → withLowWordS x 0 ≡ cut binary64 32 x
 low-cleared x = ap (ofBits binary64) (add-zero (toBits binary64 x / 2 ^ 32 * 2 ^ 32)) ∙ sym (cut-is binary64 32 x)

@@ -1,26 +1,37 @@
 -- `pow::signed` meets its contract. Assumes nothing.
-use borrow.Author.Tests.{lt-ltb, le-ltb}
+use Prim.Native.Nat.{_%_}
+use mathlib.Core.Path.{sym, _∙_}
+use borrow.Author.Tests.{lt-ltb}
 use Rattle.pow.specs.Pow.{signedS}
 use borrow.Author.Needs.{needs}
+use Rattle.pow.proofs.FarLaws.{huge, near}
 use Rattle.pow.proofs.signed.Statement.{statement}
 use Rattle.pow.proofs.signed.Tie as tie
 
-huge-requires : tie.Need-huge-requires
-huge-requires c κs = search needs
+is-far-requires : tie.Need-is-far-requires
+is-far-requires c κs = search needs
+
+far-requires : tie.Need-far-requires
+far-requires c κs = sym (c .before .is-far .ensures) ∙ c .if1 .taken
 
 returns : tie.Need-returns
 unfolding signedS
-returns c = simp (lt-ltb _ _ (c .before .if1 .taken)) (c .huge .ensures)
+returns c =
+    let t = c .before in
+    let a = t .before .before .args in
+    simp (lt-ltb 0x41E00000 (a .hy % 0x80000000) (huge (a .ix) (a .hy % 0x80000000) (sym (t .before .is-far .ensures) ∙ t .if1 .taken))) (c .far .ensures (a .ax) (a .y))
 
-log2-requires : tie.Need-log2-requires
-log2-requires c κs = search needs
+log-of-requires : tie.Need-log-of-requires
+log-of-requires c κs = search needs
 
 product-requires : tie.Need-product-requires
 product-requires c κs = search needs
 
 returns-2 : tie.Need-returns-2
-unfolding signedS
-returns-2 c = simp (le-ltb _ _ (c .before .before .if1 .left)) (rw (c .product .ensures, c .before .log2 .ensures))
+returns-2 c =
+    let e = c .before .before in
+    let a = e .before .before .args in
+    rw (c .product .ensures, c .before .log-of .ensures) (near (a .s) (a .ax) (a .y) (a .ix) (a .hy) (sym (e .before .is-far .ensures) ∙ e .if1 .left))
 
 pub signed-spec : {M : Type 1} → statement M
-signed-spec = tie.close (tie.spec huge-requires returns log2-requires product-requires returns-2)
+signed-spec = tie.close (tie.spec is-far-requires far-requires returns log-of-requires product-requires returns-2)
