@@ -14,9 +14,9 @@ use Rattle.rounding.proofs.Signed.{le→Le, le-neg}
 use Rattle.rounding.proofs.Order.{between-finite}
 use Rattle.rounding.proofs.Range.{Expr, var, con, plus, times, eval, ieval, In, rangeTest, range}
 use Rattle.words.specs.Bits.{sizeWordS}
-use Rattle.words.specs.Whole.{wholeS}
+use Rattle.whole.specs.Whole.{wholeS}
 use Rattle.words.proofs.CutLaws.{word-from, word-upto, sign-of}
-use Rattle.words.proofs.WholeBounds.{number, Minus, whole-minus}
+use Rattle.whole.proofs.WholeBounds.{number, Minus, whole-minus}
 use Rattle.exp.specs.Plan.{multipleS, reducedS, plainS}
 use Rattle.exp.specs.Exp.{exp64, expS}
 use Rattle.exp.proofs.Cells.{product, quotient, over-low, under-high, least, one, cell-range}

@@ -19,7 +19,7 @@ use Rattle.rounding.proofs.Monotone.{add-mono, mul-mono-plus}
 use Rattle.rounding.proofs.Interval.{Interval, some}
 use Rattle.rounding.proofs.Range.{Expr, var, con, minus, times, eval, ieval, In, rangeTest, range}
 use Rattle.words.specs.F64.{_⊕_, _⊖_, _⊗_}
-use Rattle.words.proofs.WholeBounds.{number}
+use Rattle.whole.proofs.WholeBounds.{number}
 use Rattle.scalbn.specs.Scalbn.{power2, scalbnS}
 use Rattle.scalbn.proofs.OneProduct.{one-product, power-le}
 use Rattle.exp.specs.Plan.{primaryS, reducedS}

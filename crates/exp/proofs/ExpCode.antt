@@ -7,7 +7,7 @@ use mir.Syntax.{w32}
 use mir.Val.{SFits, ofZ}
 use mir.ValLaws.{toZ-ofZ}
 use borrow.Author.Tests.{le-leb, lt-leb, lt-ltb, le-ltb, eq-eqb, ne-eqb}
-use Rattle.words.specs.Whole.{wholeS}
+use Rattle.whole.specs.Whole.{wholeS}
 use Rattle.poly.specs.Horner.{hornerS}
 use Rattle.scalbn.specs.Scalbn.{scalbnS}
 use Rattle.scalbn.proofs.Exponents.{local}

@@ -8,7 +8,7 @@ use lib.Ieee.{Float, Format, ofInt}
 use Rattle.words.specs.Pick.{if_then_else_}
 use Rattle.words.specs.Tests.{_>?_, _≥?_, _=?_}
 use Rattle.words.specs.Operators.{Operators, operators}
-use Rattle.words.specs.Whole.{wholeS}
+use Rattle.whole.specs.Whole.{wholeS}
 use Rattle.poly.specs.Horner.{hornerS}
 use Rattle.scalbn.specs.Scalbn.{scalbnS}
 

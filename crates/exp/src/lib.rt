@@ -12,7 +12,7 @@ use poly::horner;
 use scalbn::scalbn;
 use words::bits::sign;
 use words::bits::size_word;
-use words::whole::whole;
+use whole::whole;
 
 const MINUS_HALF: f64 = -0.5;
 

@@ -8,7 +8,7 @@ use poly::hornerf;
 use scalbn::single::scalbnf;
 use words::bits::sign_f32;
 use words::bits::size_bits;
-use words::whole::wholef;
+use whole::wholef;
 
 const MINUS_HALF: f32 = -0.5;
 

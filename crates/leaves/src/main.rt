@@ -62,11 +62,11 @@ use words::bits::with_set_high_word;
 use words::bits::with_set_low_word;
 use words::fabs::fabs;
 use words::fabs::fabsf;
-use words::floor::floor;
-use words::floor::floorf;
-use words::narrow::narrow;
-use words::whole::whole;
-use words::whole::wholef;
+use floor::floor;
+use floor::floorf;
+use narrow::narrow;
+use whole::whole;
+use whole::wholef;
 ghost use Prim.Native.Nat.{_+_, _*_, _≤_};
 ghost use lib.ListN.{length};
 

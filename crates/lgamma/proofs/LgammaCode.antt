@@ -14,7 +14,7 @@ use borrow.Author.Tests.{le-leb, lt-leb, lt-ltb, le-ltb, eq-eqb, ne-eqb}
 use Rattle.words.specs.Pick.{pick}
 use Rattle.words.specs.Operators.{Operators, operators}
 use Rattle.words.specs.Bits.{signS}
-use Rattle.words.specs.Whole.{wholeS}
+use Rattle.whole.specs.Whole.{wholeS}
 use Rattle.words.proofs.PatternLaws.{is-nan}
 use Rattle.poly.specs.Horner.{hornerS}
 use Rattle.lgamma.specs.Plan.{Plan, Answer, Segment}

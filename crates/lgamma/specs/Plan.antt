@@ -11,7 +11,7 @@ use Rattle.words.specs.Pick.{if_then_else_}
 use Rattle.words.specs.Tests.{_<?_, _≤?_, _≥?_, _=?_, _≠?_, _≥ℤ?_, _>·_, _=·_}
 use Rattle.words.specs.Operators.{Operators, operators}
 use Rattle.words.specs.Bits.{signS}
-use Rattle.words.specs.Whole.{wholeS}
+use Rattle.whole.specs.Whole.{wholeS}
 use Rattle.poly.specs.Horner.{hornerS}
 
 -- A log-gamma answer: the value, and signgam, the sign of the gamma function

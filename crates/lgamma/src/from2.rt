@@ -8,7 +8,7 @@ ghost use Rattle.lgamma.specs.Plan.{productS, below8S, stirlingS};
 ghost use Rattle.lgamma.specs.Lgamma64.{lgamma64};
 use log::log;
 use poly::horner;
-use words::whole::whole;
+use whole::whole;
 
 // S0 to S6
 const S: [f64; 7] = [

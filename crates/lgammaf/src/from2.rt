@@ -6,7 +6,7 @@ ghost use Rattle.lgamma.specs.Plan.{productS, below8S, stirlingS};
 ghost use Rattle.lgammaf.specs.Lgammaf.{lgamma32};
 use log::single::logf;
 use poly::hornerf;
-use words::whole::wholef;
+use whole::wholef;
 
 // S0 to S6
 const S: [f32; 7] = [

@@ -1,8 +1,8 @@
 -- Every point of the table holds, by one computation of the checker from the definitions. Assumes nothing.
 use lib.Dec.{T}
 use lib.Ieee.{add, sub, mul, div, neg, eq, lt, le, ofInt, ofBits, toBits}
-use Rattle.words.specs.Floor.{floorS}
-use Rattle.words.specs.Whole.{wholeS}
+use Rattle.floor.specs.Floor.{floorS}
+use Rattle.whole.specs.Whole.{wholeS}
 use Rattle.trig.specs.KSin.{kSinS}
 use Rattle.sinpi.specs.Sinpi.{turnS, quarterS, sinpiS}
 use Rattle.tgamma.specs.Tgamma.{tgammaS, integerS, generalS, vanishedS}

@@ -15,10 +15,10 @@ use lib.Ieee.Exact.{HasValue}
 use lib.Ieee.Digits.{back}
 use Rattle.rounding.proofs.Signed.{value-longer}
 use Rattle.rounding.proofs.Exact.{mul-pow-exact, half-exact, sub-exact, sub-exact-neg}
-use Rattle.words.specs.Floor.{floorS}
-use Rattle.words.specs.Whole.{wholeS}
-use Rattle.words.proofs.FloorValues.{floor-plus}
-use Rattle.words.proofs.WholeLaws.{whole-value}
+use Rattle.floor.specs.Floor.{floorS}
+use Rattle.whole.specs.Whole.{wholeS}
+use Rattle.floor.proofs.FloorValues.{floor-plus}
+use Rattle.whole.proofs.WholeLaws.{whole-value}
 
 -- ---- numbers
 pub mod-unique : (n k M r : ℕ) → n ≡ r + k * M → r < M → n % M ≡ r

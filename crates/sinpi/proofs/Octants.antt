@@ -23,7 +23,7 @@ use Rattle.rounding.proofs.Relative.{self-le-mul}
 use Rattle.rounding.proofs.Odd.{neg-neg, mul-neg}
 use Rattle.words.specs.Pick.{pick}
 use Rattle.words.specs.F64.{_⊖_, _⊗_}
-use Rattle.words.specs.Whole.{wholeS}
+use Rattle.whole.specs.Whole.{wholeS}
 use Rattle.trig.proofs.CosineRange.{pio4}
 use Rattle.sinpi.specs.Sinpi.{PI, turnS, quarterS}
 use Rattle.sinpi.proofs.Exactness.{half+, turnOf, restOf, quarter-value, fold-down, fold-up}

@@ -21,10 +21,10 @@ use Rattle.rounding.proofs.Grid.{on-grid}
 use Rattle.rounding.proofs.Exact.{round-at-most}
 use Rattle.rounding.proofs.Relative.{one+}
 use Rattle.words.specs.F64.{_⊖_, _⊗_, bits}
-use Rattle.words.specs.Floor.{floorS}
-use Rattle.words.specs.Whole.{signed, wholeS}
-use Rattle.words.proofs.FloorValues.{sizeBelow, stays, floor-part, part-small}
-use Rattle.words.proofs.WholeLaws.{whole-nan, whole-value}
+use Rattle.floor.specs.Floor.{floorS}
+use Rattle.whole.specs.Whole.{signed, wholeS}
+use Rattle.floor.proofs.FloorValues.{sizeBelow, stays, floor-part, part-small}
+use Rattle.whole.proofs.WholeLaws.{whole-nan, whole-value}
 use Rattle.sinpi.specs.Sinpi.{PI}
 use Rattle.sinpi.proofs.Exactness.{half+, turnOf}
 use Rattle.sinpi.proofs.Reduction.{NotBelow, part-not-below}

@@ -13,8 +13,8 @@ use Rattle.rounding.proofs.Signed.{P, N, le→Le}
 use Rattle.rounding.proofs.Fraction.{add-fraction}
 use Rattle.rounding.proofs.Relative.{zero+}
 use Rattle.rounding.proofs.Exact.{round-at-least}
-use Rattle.words.specs.Floor.{floorS}
-use Rattle.words.proofs.FloorValues.{floor-at-most, floor-inf}
+use Rattle.floor.specs.Floor.{floorS}
+use Rattle.floor.proofs.FloorValues.{floor-at-most, floor-inf}
 use Rattle.sinpi.specs.Sinpi.{turnS}
 use Rattle.sinpi.specs.Sinpif as Sinpif
 use Rattle.sinpi.proofs.Exactness.{half+, turnOf}

@@ -20,8 +20,8 @@ use Rattle.rounding.proofs.Relative.{zero+, one+, power-below}
 use Rattle.rounding.proofs.Range.{In}
 use Rattle.rounding.proofs.Grid.{OnGrid, on-grid, spare}
 use Rattle.words.specs.F64.{bits, _⊗_}
-use Rattle.words.specs.Whole.{wholeS}
-use Rattle.words.proofs.WholeLaws.{whole-value}
+use Rattle.whole.specs.Whole.{wholeS}
+use Rattle.whole.proofs.WholeLaws.{whole-value}
 use Rattle.trig.specs.KSin.{kSinS}
 use Rattle.trig.specs.KCos.{kCosS}
 use Rattle.trig.proofs.CosineRange.{half, two, cos-range}

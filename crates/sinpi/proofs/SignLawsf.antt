@@ -20,7 +20,7 @@ use Rattle.rounding.proofs.Relative.{power-below}
 use Rattle.rounding.proofs.Grid.{OnGrid, on-grid, spare}
 use Rattle.words.specs.F32 as F32
 use Rattle.words.specs.F64.{bits, _⊗_}
-use Rattle.words.specs.Whole.{wholeS}
+use Rattle.whole.specs.Whole.{wholeS}
 use Rattle.words.proofs.PatternLaws.{same-value}
 use Rattle.trig.specs.KSinf.{kSinfS}
 use Rattle.trig.specs.KCosf.{kCosfS}

@@ -15,9 +15,9 @@ use lib.Ieee.Fits.{down-pos, mul-fits, sub-fits}
 use Rattle.rounding.proofs.Exact.{Representable, sub-exact}
 use Rattle.rounding.proofs.Relative.{zero+, one+}
 use Rattle.rounding.proofs.Grid.{OnGrid, on-grid, spare, pow-multiple}
-use Rattle.words.specs.Floor.{floorS}
+use Rattle.floor.specs.Floor.{floorS}
 use Rattle.words.proofs.PatternLaws.{same-value}
-use Rattle.words.proofs.FloorValues.{stays}
+use Rattle.floor.proofs.FloorValues.{stays}
 use Rattle.sinpi.proofs.Exactness.{mod-unique, half+, turnOf, half-value, turn-value, turn-is}
 
 -- ---- X mod 2 L by the quotient and the rest of X by L

@@ -7,8 +7,8 @@ use lib.Ieee.{Float, binary64, neg, ofInt}
 use Rattle.words.specs.Pick.{if_then_else_}
 use Rattle.words.specs.Tests.{_=?_}
 use Rattle.words.specs.F64.{_⊖_, _⊗_, bits, 0·0, 0·5, 2·0, 4·0}
-use Rattle.words.specs.Floor.{floorS}
-use Rattle.words.specs.Whole.{wholeS}
+use Rattle.floor.specs.Floor.{floorS}
+use Rattle.whole.specs.Whole.{wholeS}
 use Rattle.trig.specs.KSin.{kSinS}
 use Rattle.trig.specs.KCos.{kCosS}
 

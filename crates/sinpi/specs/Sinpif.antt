@@ -9,8 +9,8 @@ use Rattle.words.specs.Tests.{_=?_}
 use Rattle.words.specs.Operators.{Operators, operators}
 use Rattle.words.specs.F32 as F32
 use Rattle.words.specs.F64 as F64
-use Rattle.words.specs.Floor.{floorS}
-use Rattle.words.specs.Whole.{wholeS}
+use Rattle.floor.specs.Floor.{floorS}
+use Rattle.whole.specs.Whole.{wholeS}
 use Rattle.trig.specs.KSinf.{kSinfS}
 use Rattle.trig.specs.KCosf.{kCosfS}
 use Rattle.sinpi.specs.Sinpi.{PI}

@@ -8,7 +8,7 @@ ghost use Rattle.words.specs.F64.{_⊖_, _⊗_};
 ghost use Rattle.sinpi.specs.Sinpi.{PI, turnS, sinpiS};
 use trig::k_cos;
 use trig::k_sin;
-use words::floor::floor;
+use floor::floor;
 
 const PI: f64 = 3.14159265358979311600e+00; /* 0x400921FB, 0x54442D18 */
 

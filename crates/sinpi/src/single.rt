@@ -4,7 +4,7 @@ ghost use Rattle.sinpi.specs.Sinpif.{turnS, sinpifS};
 use crate::angle;
 use trig::single::k_cosf;
 use trig::single::k_sinf;
-use words::floor::floorf;
+use floor::floorf;
 
 // x mod 2.0
 fn turn(x: f32) -> f32

@@ -9,10 +9,10 @@ use lib.Ieee.{Float, nan, inf, fin, binary64, up, down, toBits, ofBits, eq, le, 
 use lib.Ieee.Fits.{down-pos}
 use Rattle.rounding.proofs.Signed.{le→Le, Le→le}
 use Rattle.words.specs.Bits.{sizeWordS, signS}
-use Rattle.words.specs.Floor.{floorS}
+use Rattle.floor.specs.Floor.{floorS}
 use Rattle.words.proofs.CutLaws.{from-word, sign-of}
-use Rattle.words.proofs.FloorValues.{floor-whole}
-use Rattle.words.proofs.WholeBounds.{Plus, whole-plus}
+use Rattle.floor.proofs.FloorValues.{floor-whole}
+use Rattle.whole.proofs.WholeBounds.{Plus, whole-plus}
 use Rattle.tgamma.specs.Tgamma.{23·0}
 
 -- a whole number above zero is at least one

@@ -11,8 +11,8 @@ use lib.Ieee.Bits.{ofBits-fits}
 use Rattle.words.specs.Pick.{pick}
 use Rattle.words.specs.F64.{bits, _⊗_, 0·5, 1·0}
 use Rattle.words.specs.Bits.{sizeWordS, signS}
-use Rattle.words.specs.Floor.{floorS}
-use Rattle.words.specs.Whole.{wholeS}
+use Rattle.floor.specs.Floor.{floorS}
+use Rattle.whole.specs.Whole.{wholeS}
 use Rattle.tgamma.specs.Tgamma.{INFINITY, FACT, tgammaS, integerS, generalS, vanishedS, lanczosS, lastS, x1p1023, 23·0}
 
 pick-fits : (b : Bool) (x y : Float) → T (fits binary64 x) → T (fits binary64 y) → T (fits binary64 (pick b x y))

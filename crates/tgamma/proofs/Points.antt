@@ -4,8 +4,8 @@ use mathlib.Core.Path.{_≡_, refl}
 use lib.Ieee.{ofBits, toBits, add, sub, mul, div, neg, eq, lt, le, ofInt}
 use Rattle.words.specs.F64.{bits}
 use Rattle.words.specs.Fabs.{fabsS}
-use Rattle.words.specs.Floor.{floorS}
-use Rattle.words.specs.Whole.{wholeS}
+use Rattle.floor.specs.Floor.{floorS}
+use Rattle.whole.specs.Whole.{wholeS}
 use Rattle.poly.specs.Horner.{hornerS}
 use Rattle.scalbn.specs.Scalbn.{scalbnS}
 use Rattle.exp.specs.Plan as exp

@@ -14,10 +14,10 @@ use borrow.Author.Tests.{lt-leb, ltb-true, ltb-false, leb-true, leb-false}
 use Rattle.rounding.proofs.Range.{In}
 use Rattle.words.specs.F64.{_⊗_, _⊘_, 1·0}
 use Rattle.words.specs.Bits.{sizeWordS}
-use Rattle.words.specs.Floor.{floorS}
+use Rattle.floor.specs.Floor.{floorS}
 use Rattle.words.proofs.CutLaws.{word-under, from-word, upto-word, sign-of}
-use Rattle.words.proofs.FloorValues.{floor-differs}
-use Rattle.words.proofs.WholeBounds.{Plus}
+use Rattle.floor.proofs.FloorValues.{floor-differs}
+use Rattle.whole.proofs.WholeBounds.{Plus}
 use Rattle.tgamma.specs.Tgamma.{FACT, tgammaS, integerS, generalS, vanishedS, lanczosS, x1p1023, 23·0}
 use Rattle.tgamma.proofs.FactIndex.{fact-index}
 

@@ -13,7 +13,7 @@ use borrow.Author.Tests.{lt-leb, le-ltb}
 use Rattle.rounding.proofs.Signed.{Le→le}
 use Rattle.words.specs.Bits.{sizeWordS}
 use Rattle.words.proofs.CutLaws.{word-under, word-from, sign-of}
-use Rattle.words.proofs.FloorValues.{floor-same}
+use Rattle.floor.proofs.FloorValues.{floor-same}
 use Rattle.tgamma.proofs.FactIndex.{one-le}
 use Rattle.tgamma.specs.Tgamma.{tgammaS, integerS}
 

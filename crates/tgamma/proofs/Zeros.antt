@@ -20,8 +20,8 @@ use Rattle.rounding.proofs.Grid.{on-grid, spare}
 use Rattle.rounding.proofs.Exact.{shrink-exact}
 use Rattle.words.specs.Pick.{pick}
 use Rattle.words.specs.F64.{bits}
-use Rattle.words.specs.Floor.{floorS}
-use Rattle.words.proofs.FloorValues.{part-small, floor-part}
+use Rattle.floor.specs.Floor.{floorS}
+use Rattle.floor.proofs.FloorValues.{part-small, floor-part}
 use Rattle.tgamma.specs.Tgamma.{vanishedS}
 
 abbrev half+ : Float

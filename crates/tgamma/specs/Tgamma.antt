@@ -11,8 +11,8 @@ use Rattle.words.specs.Pick.{if_then_else_}
 use Rattle.words.specs.Tests.{_<?_, _≥?_, _=?_, _<·_, _>·_, _≤·_, _=·_}
 use Rattle.words.specs.F64.{_⊕_, _⊖_, _⊗_, _⊘_, bits, 0·0, -0·0, 0·5, 1·0}
 use Rattle.words.specs.Bits.{sizeWordS, signS}
-use Rattle.words.specs.Floor.{floorS}
-use Rattle.words.specs.Whole.{wholeS}
+use Rattle.floor.specs.Floor.{floorS}
+use Rattle.whole.specs.Whole.{wholeS}
 use Rattle.exp.specs.Exp.{expS}
 use Rattle.pow.specs.Pow.{powS}
 use Rattle.sinpi.specs.Sinpi.{sinpiS}

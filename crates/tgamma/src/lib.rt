@@ -16,8 +16,8 @@ ghost use Rattle.words.specs.Pick.{if_then_else_};
 ghost use Rattle.words.specs.Tests.{_=?_};
 ghost use Rattle.words.specs.Bits.{sizeWordS, signS};
 ghost use Rattle.words.specs.F64.{bits};
-ghost use Rattle.words.specs.Floor.{floorS};
-ghost use Rattle.words.specs.Whole.{wholeS};
+ghost use Rattle.floor.specs.Floor.{floorS};
+ghost use Rattle.whole.specs.Whole.{wholeS};
 ghost use Rattle.tgamma.specs.Tgamma.{dyS, lastS, lanczosS, vanishedS, generalS, integerS, tgammaS};
 use crate::lanczos::s;
 use exp::exp;
@@ -25,8 +25,8 @@ use pow::pow;
 use sinpi::sinpi;
 use words::bits::sign;
 use words::bits::size_word;
-use words::floor::floor;
-use words::whole::whole;
+use floor::floor;
+use whole::whole;
 
 const GMHALF: f64 = 5.524680040776729583740234375;
 

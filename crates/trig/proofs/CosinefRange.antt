@@ -7,7 +7,7 @@ use lib.Dec.{T}
 use lib.Ieee.{Float, binary64, add, mul, neg, le, fits, ofBits}
 use Rattle.rounding.proofs.Range.{Expr, var, con, plus, times, share, eval, ieval, In, halvedTest}
 use Rattle.words.specs.F64.{bits}
-use Rattle.words.specs.Narrow.{narrowS}
+use Rattle.narrow.specs.Narrow.{narrowS}
 use Rattle.trig.specs.KCosf.{C0, C1, C2, C3, kCosfS}
 use Rattle.trig.proofs.CosineRange.{pio4, half, one, two, both-sides}
 use Rattle.trig.proofs.Narrowing.{narrow-in}

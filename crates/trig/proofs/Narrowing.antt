@@ -13,8 +13,8 @@ use Rattle.rounding.proofs.Order.{between-finite}
 use Rattle.rounding.proofs.Exact.{round-at-most, round-at-least}
 use Rattle.rounding.proofs.Error.{round-near}
 use Rattle.rounding.proofs.Range.{In}
-use Rattle.words.specs.Narrow.{narrowS}
-use Rattle.words.proofs.NarrowLaws.{narrow-value}
+use Rattle.narrow.specs.Narrow.{narrowS}
+use Rattle.narrow.proofs.NarrowLaws.{narrow-value}
 
 -- what lies between two values of f32 is narrowed to what lies between them
 pub narrow-in : (x : Float) (s : Bool) (m : ℕ) (e : ℤ) (t : Bool) (n : ℕ) (d : ℤ) → T (fits binary32 (fin s m e)) → T (fits binary32 (fin t n d))

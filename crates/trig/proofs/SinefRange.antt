@@ -29,8 +29,8 @@ use Rattle.rounding.proofs.Relative.{zero+, one+, two+, power-below, part-, qua
 use Rattle.rounding.proofs.Odd.{mul-neg, mul-neg-right, mul-neg-both, add-odd}
 use Rattle.rounding.proofs.Range.{Expr, var, con, plus, times, eval, ieval, In, rangeTest, range}
 use Rattle.words.specs.F64.{_⊕_, _⊗_}
-use Rattle.words.specs.Narrow.{narrowS}
-use Rattle.words.proofs.NarrowLaws.{narrow-value, narrow-neg}
+use Rattle.narrow.specs.Narrow.{narrowS}
+use Rattle.narrow.proofs.NarrowLaws.{narrow-value, narrow-neg}
 use Rattle.trig.specs.KSinf.{S1, S2, S3, S4, kSinfS}
 use Rattle.trig.proofs.CosineRange.{pio4}
 use Rattle.trig.proofs.SineRange.{mul-plus, square-range, times-under, product-range}

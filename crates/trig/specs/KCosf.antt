@@ -1,7 +1,7 @@
 -- k_cosf, the kernel of the cosine for f32, as the Rust's k_cosf.rs has it: in rounded operations of f64, narrowed to f32 at the end.
 use lib.Ieee.{Float}
 use Rattle.words.specs.F64.{_⊕_, _⊗_, bits, 1·0}
-use Rattle.words.specs.Narrow.{narrowS}
+use Rattle.narrow.specs.Narrow.{narrowS}
 
 abbrev pub C0 : Float
 C0 = bits 0xBFDFFFFFFD0C5E81  -- C0 -0.499999997251031003120

@@ -1,7 +1,7 @@
 -- k_sinf, the kernel of the sine for f32, as the Rust's k_sinf.rs has it: in rounded operations of f64, narrowed to f32 at the end.
 use lib.Ieee.{Float}
 use Rattle.words.specs.F64.{_⊕_, _⊗_, bits}
-use Rattle.words.specs.Narrow.{narrowS}
+use Rattle.narrow.specs.Narrow.{narrowS}
 
 abbrev pub S1 : Float
 S1 = bits 0xBFC5555554CBAC77  -- S1 -0.166666666416265235595

@@ -3,7 +3,7 @@
 ghost use mathlib.Core.Path.{_≡_};
 ghost use Rattle.trig.specs.KSinf.{kSinfS};
 ghost use Rattle.trig.specs.KCosf.{kCosfS};
-use words::narrow::narrow;
+use narrow::narrow;
 
 const S1: f64 = -0.166666666416265235595; /* -0x15555554cbac77.0p-55 */
 

@@ -17,6 +17,3 @@ pub mod F64
 pub mod F32
 pub mod Bits
 pub mod Fabs
-pub mod Floor
-pub mod Whole
-pub mod Narrow

@@ -1,7 +1,3 @@
-// The bits and words of f64 and f32 with one NaN, and the leaves that look at nothing else:
-// size, floor, whole part, narrowing.
+// The bits and words of f64 and f32 with one NaN, and the size, which looks at nothing else.
 pub mod bits;
 pub mod fabs;
-pub mod floor;
-pub mod narrow;
-pub mod whole;

@@ -11,8 +11,8 @@ use borrow.Author.Needs.{needs}
 use Rattle.rounding.proofs.Fraction.{mul-commutes}
 use Rattle.words.specs.F32 as F32
 use Rattle.words.specs.F64.{_⊖_, _⊗_, bits}
-use Rattle.words.specs.Narrow.{narrowS}
-use Rattle.words.specs.Whole.{wholeS}
+use Rattle.narrow.specs.Narrow.{narrowS}
+use Rattle.whole.specs.Whole.{wholeS}
 use Rattle.words.proofs.PatternLaws.{is-nan, not-nan}
 use Rattle.trig.specs.KSinf.{kSinfS}
 use Rattle.trig.specs.KCosf.{kCosfS}

@@ -1,0 +1,2 @@
+-- Narrowing: what is worked out on the bits.
+pub mod NarrowLaws

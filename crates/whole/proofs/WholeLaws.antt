@@ -1,0 +1,61 @@
+-- The whole part by the value of x:
+--   `whole-at`, `whole-value`: of ±d / w it is ±(d / w), where that is below 2 ^ 31, and else 0;
+--   `whole-nan`: of a NaN it is 0;
+--   `whole-neg`: of -x it is that of x, negated;
+--   `whole-natural`: of an x that is not below zero it is a natural number.
+-- Assumes nothing.
+use mathlib.Core.Path.{_≡_, refl, ap, _∙_}
+use mathlib.Core.Bool.{Bool, true, false, not, cond}
+use Prim.Native.Nat.{ℕ, zero, suc, _+_, _*_, _/_, _^_, _<_}
+use native.Mathlib.Nat.{zero-div}
+use native.Mathlib.Omega.{arith}
+use lib.IntN.{ℤ, pos, negℤ, natAbs}
+use lib.Dec.{ltb}
+use lib.Ieee.{Float, nan, inf, fin, up, down, neg, lt}
+use lib.Ieee.Exact.{HasValue}
+use lib.Ieee.Fits.{down-pos}
+use lib.Ieee.Nearest.{div-same}
+use borrow.Author.Tests.{lt-ltb, ltb-false}
+use Rattle.rounding.proofs.Relative.{zero+}
+use Rattle.whole.specs.Whole.{wholeS, signed}
+
+-- ±q where q is below 2 ^ 31, else 0
+abbrev pub small : Bool → ℕ → ℤ
+small s q = cond (ltb q (2 ^ 31)) (signed s q) (pos 0)
+
+pub whole-at : (x : Float) (s : Bool) (d w : ℕ) → 0 < w → HasValue x s d w → wholeS x ≡ small s (d / w)
+unfolding wholeS
+whole-at (fin t m e) s d w W v =
+    ap (small t) (div-same (m * up e) (down e) d w (down-pos e) W (v .1)) ∙ ap (λ (k : Bool). small k (d / w)) (v .0)
+
+pub whole-value : (x : Float) (s : Bool) (d w : ℕ) → 0 < w → HasValue x s d w → d / w < 2 ^ 31 → wholeS x ≡ signed s (d / w)
+whole-value x s d w W v h = whole-at x s d w W v ∙ rw (lt-ltb (d / w) (2 ^ 31) h)
+
+pub whole-nan : wholeS nan ≡ pos 0
+unfolding wholeS
+whole-nan = refl
+
+pub whole-neg : (x : Float) → wholeS (neg x) ≡ negℤ (wholeS x)
+unfolding wholeS neg
+whole-neg nan = refl
+whole-neg (inf s) = refl
+whole-neg (fin s m e) = go s (m * up e / down e) (ltb (m * up e / down e) (2 ^ 31))
+  where
+    go : (s : Bool) (q : ℕ) (t : Bool) → cond t (signed (not s) q) (pos 0) ≡ negℤ (cond t (signed s q) (pos 0))
+    go true zero true = refl
+    go true (suc q) true = refl
+    go false q true = refl
+    go s q false = refl
+
+pub whole-natural : (x : Float) → lt x zero+ ≡ false → wholeS x ≡ pos (natAbs (wholeS x))
+unfolding lt wholeS
+whole-natural nan h = refl
+whole-natural (inf s) h = refl
+whole-natural (fin false m e) h = go (ltb (m * up e / down e) (2 ^ 31))
+  where
+    go : (b : Bool) → cond b (pos (m * up e / down e)) (pos 0) ≡ pos (natAbs (cond b (pos (m * up e / down e)) (pos 0)))
+    go true = refl
+    go false = refl
+whole-natural (fin true m e) h =
+    let z : m * up e ≡ 0 = omega (arith, ltb-false 0 (m * up e * 1 + 0 * down e) h) in
+    rw (z, zero-div (down e)) refl
