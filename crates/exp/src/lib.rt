@@ -10,9 +10,9 @@ ghost use Rattle.exp.specs.Plan.{primaryS, multipleS, reducedS, plainS};
 ghost use Rattle.exp.specs.Exp.{exp64, specialS, expS};
 use poly::horner;
 use scalbn::scalbn;
+use whole::whole;
 use words::bits::sign;
 use words::bits::size_word;
-use whole::whole;
 
 const MINUS_HALF: f64 = -0.5;
 

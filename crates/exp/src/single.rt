@@ -6,9 +6,9 @@ ghost use Rattle.exp.specs.Plan.{primaryS, multipleS, reducedS, plainS};
 ghost use Rattle.exp.specs.Expf.{exp32, specialS, expfS};
 use poly::hornerf;
 use scalbn::single::scalbnf;
+use whole::wholef;
 use words::bits::sign_f32;
 use words::bits::size_bits;
-use whole::wholef;
 
 const MINUS_HALF: f32 = -0.5;
 

@@ -2,9 +2,9 @@
 ghost use mathlib.Core.Path.{_≡_};
 ghost use Rattle.sinpi.specs.Sinpif.{turnS, sinpifS};
 use crate::angle;
+use floor::floorf;
 use trig::single::k_cosf;
 use trig::single::k_sinf;
-use floor::floorf;
 
 // x mod 2.0
 fn turn(x: f32) -> f32

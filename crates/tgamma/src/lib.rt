@@ -21,12 +21,12 @@ ghost use Rattle.whole.specs.Whole.{wholeS};
 ghost use Rattle.tgamma.specs.Tgamma.{dyS, lastS, lanczosS, vanishedS, generalS, integerS, tgammaS};
 use crate::lanczos::s;
 use exp::exp;
+use floor::floor;
 use pow::pow;
 use sinpi::sinpi;
+use whole::whole;
 use words::bits::sign;
 use words::bits::size_word;
-use floor::floor;
-use whole::whole;
 
 const GMHALF: f64 = 5.524680040776729583740234375;
 
