@@ -1,22 +1,18 @@
 -- The whole part by the value of x:
 --   `whole-at`, `whole-value`: of ±d / w it is ±(d / w), where that is below 2 ^ 31, and else 0;
 --   `whole-nan`: of a NaN it is 0;
---   `whole-neg`: of -x it is that of x, negated;
---   `whole-natural`: of an x that is not below zero it is a natural number.
+--   `whole-neg`: of -x it is that of x, negated.
 -- Assumes nothing.
 use mathlib.Core.Path.{_≡_, refl, ap, _∙_}
 use mathlib.Core.Bool.{Bool, true, false, not, cond}
 use Prim.Native.Nat.{ℕ, zero, suc, _+_, _*_, _/_, _^_, _<_}
-use native.Mathlib.Nat.{zero-div}
-use native.Mathlib.Omega.{arith}
-use lib.IntN.{ℤ, pos, negℤ, natAbs}
+use lib.IntN.{ℤ, pos, negℤ}
 use lib.Dec.{ltb}
-use lib.Ieee.{Float, nan, inf, fin, up, down, neg, lt}
+use lib.Ieee.{Float, nan, inf, fin, up, down, neg}
 use lib.Ieee.Exact.{HasValue}
 use lib.Ieee.Fits.{down-pos}
 use lib.Ieee.Nearest.{div-same}
-use borrow.Author.Tests.{lt-ltb, ltb-false}
-use Rattle.rounding.proofs.Relative.{zero+}
+use borrow.Author.Tests.{lt-ltb}
 use Rattle.whole.specs.Whole.{wholeS, signed}
 
 -- ±q where q is below 2 ^ 31, else 0
@@ -46,16 +42,3 @@ whole-neg (fin s m e) = go s (m * up e / down e) (ltb (m * up e / down e) (2 ^ 3
     go true (suc q) true = refl
     go false q true = refl
     go s q false = refl
-
-pub whole-natural : (x : Float) → lt x zero+ ≡ false → wholeS x ≡ pos (natAbs (wholeS x))
-unfolding lt wholeS
-whole-natural nan h = refl
-whole-natural (inf s) h = refl
-whole-natural (fin false m e) h = go (ltb (m * up e / down e) (2 ^ 31))
-  where
-    go : (b : Bool) → cond b (pos (m * up e / down e)) (pos 0) ≡ pos (natAbs (cond b (pos (m * up e / down e)) (pos 0)))
-    go true = refl
-    go false = refl
-whole-natural (fin true m e) h =
-    let z : m * up e ≡ 0 = omega (arith, ltb-false 0 (m * up e * 1 + 0 * down e) h) in
-    rw (z, zero-div (down e)) refl
