@@ -13,12 +13,13 @@ ghost use lib.IntN.{natAbs};
 ghost use lib.Ieee as Ieee;
 ghost use lib.Ieee.{binary64, neg};
 ghost use Rattle.words.specs.Pick.{if_then_else_};
-ghost use Rattle.words.specs.Tests.{_=?_};
+ghost use Rattle.words.specs.Tests.{_=?_, _<·_};
 ghost use Rattle.words.specs.Bits.{sizeWordS, signS};
-ghost use Rattle.words.specs.F64.{bits};
+ghost use Rattle.words.specs.F64.{_⊗_, _⊘_, bits, 0·0};
 ghost use Rattle.floor.specs.Floor.{floorS};
 ghost use Rattle.whole.specs.Whole.{wholeS};
-ghost use Rattle.tgamma.specs.Tgamma.{dyS, lastS, lanczosS, vanishedS, generalS, integerS, tgammaS};
+ghost use Rattle.sinpi.specs.Sinpi.{sinpiS};
+ghost use Rattle.tgamma.specs.Tgamma.{MINUS·PI, dyS, lastS, lanczosS, vanishedS, generalS, integerS, tgammaS};
 use crate::lanczos::s;
 use exp::exp;
 use floor::floor;
@@ -87,7 +88,24 @@ fn last(y: f64, dy: f64, z: f64, r: f64) -> f64
     r * z * z
 }
 
-// The formula itself, for a size below 184.
+// -v for negative x, else v.
+fn turned(v: f64, x: f64) -> f64
+    ensures { λ r. ⌜ r ≡ (if x <· 0·0 then neg v else v) ⌝ }
+{
+    if x < 0.0 { -v } else { v }
+}
+
+// The reflection formula for negative x, else r.
+fn reflected(x: f64, absx: f64, r: f64) -> f64
+    ensures { λ r'. ⌜ r' ≡ (if x <· 0·0 then MINUS·PI ⊘ (sinpiS absx ⊗ absx ⊗ r) else r) ⌝ }
+{
+    if x < 0.0 {
+        return MINUS_PI / (sinpi(absx) * absx * r);
+    }
+    r
+}
+
+// The formula itself, for a size below 184. `last`, with its pow, is called once, for either sign of x.
 fn by_lanczos(x: f64, sign: u32) -> f64
     ensures { λ r. ⌜ r ≡ lanczosS x sign ⌝ }
 {
@@ -96,11 +114,7 @@ fn by_lanczos(x: f64, sign: u32) -> f64
     let dy = correction(absx, y);
     let z = absx - 0.5;
     let r = s(absx) * exp(-y);
-    if x < 0.0 {
-        /* reflection formula for negative x */
-        return last(y, -dy, -z, MINUS_PI / (sinpi(absx) * absx * r));
-    }
-    last(y, dy, z, r)
+    last(y, turned(dy, x), turned(z, x), reflected(x, absx, r))
 }
 
 // x <= -184: tgamma(x) = +-0
