@@ -11,7 +11,8 @@ ghost use mathlib.Core.Bool.{true};
 ghost use Prim.Native.Nat.{_≤_};
 ghost use lib.IntN.{natAbs};
 ghost use lib.Ieee as Ieee;
-ghost use lib.Ieee.{binary64, neg};
+ghost use lib.Ieee.{nan, binary64, neg};
+ghost use lib.ListN.{getD};
 ghost use Rattle.words.specs.Pick.{if_then_else_};
 ghost use Rattle.words.specs.Tests.{_=?_, _<·_};
 ghost use Rattle.words.specs.Bits.{sizeWordS, signS};
@@ -19,7 +20,7 @@ ghost use Rattle.words.specs.F64.{_⊗_, _⊘_, bits, 0·0};
 ghost use Rattle.floor.specs.Floor.{floorS};
 ghost use Rattle.whole.specs.Whole.{wholeS};
 ghost use Rattle.sinpi.specs.Sinpi.{sinpiS};
-ghost use Rattle.tgamma.specs.Tgamma.{MINUS·PI, dyS, lastS, lanczosS, vanishedS, generalS, integerS, tgammaS};
+ghost use Rattle.tgamma.specs.Tgamma.{MINUS·PI, FACT, dyS, lastS, lanczosS, vanishedS, generalS, integerS, tgammaS};
 use crate::lanczos::s;
 use exp::exp;
 use floor::floor;
@@ -36,31 +37,37 @@ const MINUS_PI: f64 = -3.141592653589793238462643383279502884;
 const MINUS_ZERO: f64 = -0.0;
 
 /* n! for small integer n */
-const FACT: [f64; 23] = [
-    1.0,
-    1.0,
-    2.0,
-    6.0,
-    24.0,
-    120.0,
-    720.0,
-    5040.0,
-    40320.0,
-    362880.0,
-    3628800.0,
-    39916800.0,
-    479001600.0,
-    6227020800.0,
-    87178291200.0,
-    1307674368000.0,
-    20922789888000.0,
-    355687428096000.0,
-    6402373705728000.0,
-    121645100408832000.0,
-    2432902008176640000.0,
-    51090942171709440000.0,
-    1124000727777607680000.0,
-];
+// A match, of which the compiler makes a table in the constants; an array would be stored to the stack at each lookup.
+fn fact(n: usize) -> f64
+    requires { ⌜ n ≤ 22 ⌝ }
+    ensures { λ r. ⌜ r ≡ getD FACT n nan ⌝ }
+{
+    match n {
+        0 => 1.0,
+        1 => 1.0,
+        2 => 2.0,
+        3 => 6.0,
+        4 => 24.0,
+        5 => 120.0,
+        6 => 720.0,
+        7 => 5040.0,
+        8 => 40320.0,
+        9 => 362880.0,
+        10 => 3628800.0,
+        11 => 39916800.0,
+        12 => 479001600.0,
+        13 => 6227020800.0,
+        14 => 87178291200.0,
+        15 => 1307674368000.0,
+        16 => 20922789888000.0,
+        17 => 355687428096000.0,
+        18 => 6402373705728000.0,
+        19 => 121645100408832000.0,
+        20 => 2432902008176640000.0,
+        21 => 51090942171709440000.0,
+        _ => 1124000727777607680000.0,
+    }
+}
 
 // |x|
 fn size(x: f64, sign: u32) -> f64
@@ -158,7 +165,7 @@ fn integer(x: f64, ix: u32, sign: u32) -> f64
         return 0.0 / 0.0;
     }
     if x <= 23.0 {
-        return FACT[number(x) - 1];
+        return fact(number(x) - 1);
     }
     general(x, ix, sign)
 }

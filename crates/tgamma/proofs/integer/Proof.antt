@@ -16,18 +16,17 @@ number-requires c κs =
     let h = c .before .before .pre in
     (h .0, rw (h .2) at (h .1), (λ e. c .before .if1 .left (h .3 ∙ e)), c .if2 .taken)
 
-sub-result : tie.Need-sub-result
-sub-result c = search needs
+sub-fact : tie.Need-sub-fact
+sub-fact c = search needs
 
-mul-result : tie.Need-mul-result
-mul-result c = search needs
-
-array-read-result : tie.Need-array-read-result
-array-read-result c = search needs
+fact-requires : tie.Need-fact-requires
+fact-requires c κs = search needs
 
 returns-2 : tie.Need-returns-2
 unfolding integerS
-returns-2 c = simp (ne-eqb _ _ (c .before .before .if1 .left), c .before .if2 .taken) (rw (c .number .ensures .0))
+returns-2 c =
+    let n = c .before in
+    simp (ne-eqb _ _ (n .before .before .if1 .left), n .before .if2 .taken) (rw (c .fact .ensures, n .number .ensures .0))
 
 general-requires : tie.Need-general-requires
 general-requires c κs = search needs
@@ -42,9 +41,8 @@ integer-spec =
     (tie.spec
     returns
     number-requires
-    sub-result
-    mul-result
-    array-read-result
+    sub-fact
+    fact-requires
     returns-2
     general-requires
     returns-3)
