@@ -2,7 +2,7 @@
 
 use super::code::Code;
 use super::lists::{Place, Places};
-use super::ported::{Group, Otherwise, BY_VALUE, MASKS, SAID_OTHERWISE};
+use super::ported::{Group, Otherwise, BY_VALUE, MASKS, SAID_OTHERWISE, STEPS};
 use super::specs::{self, Definition, Item, Specs};
 use super::value::Value;
 use crate::tally::Tally;
@@ -92,7 +92,7 @@ impl Comparison<'_> {
                 format!("{file}:{line}: {name} has {value}, and the Rust's {place}")
             }),
             None => {
-                let is_known = self.is_literal(value);
+                let is_known = self.is_literal(value) || is_own_step(file, value);
                 let files = self.rust_names();
                 self.tally.count(is_known, || {
                     format!("{file}:{line}: {value} in {name} is nothing that {files} has")
@@ -136,7 +136,7 @@ impl Comparison<'_> {
             });
         }
         for (line, literal) in &self.rust.literals {
-            self.tally.count(stands(literal), || {
+            self.tally.count(stands(literal) || is_left_out(files, literal), || {
                 format!(
                     "{rust}: {literal} in line {line} is not in {}",
                     files.join(", ")
@@ -239,4 +239,19 @@ fn all_names(specs: &[(&'static str, Specs)]) -> Vec<String> {
 pub fn items<'a>(specs: &'a [(&'static str, Specs)]) -> impl Iterator<Item = &'a Item> {
     let definitions = specs.iter().flat_map(|(_, specs)| &specs.definitions);
     definitions.flat_map(|definition| &definition.items)
+}
+
+/// Whether a literal of the code belongs to a step that it takes otherwise than the Rust.
+fn is_own_step(file: &str, value: &Value) -> bool {
+    let own = STEPS.iter().filter(|step| step.code == file);
+    own.flat_map(|step| step.own)
+        .any(|text| Value::Decimal((*text).into()).is_same(value))
+}
+
+/// Whether the code of some files does without a literal of the Rust.
+fn is_left_out(files: &[&str], literal: &Value) -> bool {
+    let steps = STEPS.iter().filter(|step| files.contains(&step.code));
+    steps
+        .map(|step| Value::Decimal(step.without.into()))
+        .any(|without| without.is_same(literal))
 }

@@ -110,7 +110,31 @@ pub const GROUPS: &[Group] = &[
 pub const LITERALS: [&str; 2] = ["words/specs/F64.antt", "words/specs/F32.antt"];
 
 /// Lists of the Rust whose numbers are plain literals in the port.
-pub const BY_VALUE: [&str; 2] = ["HALF", "BP"];
+pub const BY_VALUE: [&str; 3] = ["HALF", "BP", "FACT"];
+
+/// Literals of code that takes a step otherwise, and the Rust's literal that it does without. sinpi goes by tests
+/// of t = x mod 2, where the Rust cuts 4 t to a whole number, and takes n / 2 for each n; that both are one
+/// is proved.
+pub struct Step {
+    pub code: &'static str,
+    pub own: &'static [&'static str],
+    pub without: &'static str,
+}
+
+const QUARTERS: [&str; 5] = ["0.25", "0.75", "1.25", "1.75", "1.5"];
+
+pub const STEPS: [Step; 2] = [
+    Step {
+        code: "sinpi/src/lib.rt",
+        own: &QUARTERS,
+        without: "4.0",
+    },
+    Step {
+        code: "sinpi/src/single.rt",
+        own: &QUARTERS,
+        without: "4.0",
+    },
+];
 
 /// Masks of the lowest or the highest bits: a definition has a remainder or a quotient by a power of 2.
 pub const MASKS: [u64; 5] = [
