@@ -4,7 +4,7 @@ use mathlib.Core.List.{List, []}
 use Prim.Native.Nat.{ℕ, _+_, _-_, _≤_, _<_}
 use native.Mathlib.Omega.{arith}
 use lib.ListN.{length, take, drop, length-drop}
-use lib.Seq.{sets, sets-eq, length-sets, drop-drop, take-at}
+use lib.Seq.{sets, sets-eq, length-sets, drop-drop, take-at, take-all}
 use Rattle.digits.proofs.StoreLaws.{sets-append}
 use Rattle.replies.specs.Row.{Row}
 use Rattle.stream.specs.Tally.{nothing, _⊞_}
@@ -118,3 +118,6 @@ module _ (T : List Row) (s first b : List ℕ) (n : ℕ) (counts : n ≡ run T s
 module _ (T : List Row) (s : List ℕ) (room n : ℕ) (counts : n ≡ run T s room .tally .read) where
   pub read-in : n ≤ length s
   read-in = omega (arith, run-within T s room .read)
+
+  pub unread : take (length s - n) (drop n s) ≡ drop (run T s room .tally .read) s
+  unread = let d = length-drop n s in take-all (length s - n) (drop n s) (omega arith) ∙ ap (λ (k : ℕ). drop k s) counts

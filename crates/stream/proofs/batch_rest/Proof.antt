@@ -4,7 +4,7 @@ use Prim.Native.Nat.{ℕ, _+_}
 use lib.ListN.{length}
 use Rattle.replies.specs.Table.{table}
 use Rattle.stream.specs.declared.Tally.{Tally}
-use Rattle.stream.proofs.LoopLaws.{read-in, tail}
+use Rattle.stream.proofs.LoopLaws.{read-in, unread}
 use borrow.Author.Needs.{needs}
 use Rattle.stream.proofs.batch_rest.Statement.{statement}
 use Rattle.stream.proofs.batch_rest.Tie as tie
@@ -34,7 +34,7 @@ returns : tie.Need-returns
 returns c =
     let a = c .before .before .before .before .before .before .before .before .args in
     let t = c .before .before .before .before .batch in
-    record { tail = tail table (a .requests .now) (length (a .answers .now)) (t .result .tally .read) (ap (λ (x : Tally). x .read) (t .ensures .tally)); buffer = t .ensures .buffer; place = ap (λ (k : ℕ). (a .requests .ptr .0, k + a .requests .ptr .1)) (ap (λ (x : Tally). x .read) (t .ensures .tally)) }
+    record { tail = unread table (a .requests .now) (length (a .answers .now)) (t .result .tally .read) (ap (λ (x : Tally). x .read) (t .ensures .tally)); buffer = t .ensures .buffer; place = ap (λ (k : ℕ). (a .requests .ptr .0, k + a .requests .ptr .1)) (ap (λ (x : Tally). x .read) (t .ensures .tally)) }
 
 pub batch-rest-spec : {M : Type 1} → statement M
 batch-rest-spec =
