@@ -5,6 +5,9 @@ ghost use Rattle.whole.specs.Whole.{signed, wholeS};
 use words::bits::bits_of;
 use words::bits::bits_of_f32;
 
+// What there is for a size from 2^31 on, and for a NaN.
+const OUTSIDE: i32 = 0;
+
 // q, or -q.
 fn turned(q: u64, minus: bool) -> i32
     requires { ⌜ q < 2 ^ 31 ⌝ }
@@ -23,8 +26,7 @@ pub fn whole(x: f64) -> i32
         return 0;
     }
     if e > 1053 {
-        // |x| >= 2^31, or a NaN
-        return 0;
+        return OUTSIDE;
     }
     let q = (b % 0x10_0000_0000_0000 + 0x10_0000_0000_0000) >> (1075 - e);
     turned(q, b >= 0x8000_0000_0000_0000)
@@ -41,8 +43,7 @@ pub fn wholef(x: f32) -> i32
         return 0;
     }
     if e > 157 {
-        // |x| >= 2^31, or a NaN
-        return 0;
+        return OUTSIDE;
     }
     let q = (b % 0x80_0000 + 0x80_0000) * 128 >> (157 - e);
     turned(q as u64, b >= 0x8000_0000)
