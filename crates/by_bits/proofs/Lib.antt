@@ -1,2 +1,3 @@
--- What the contracts determine: Unique.
+-- What the contracts determine, and what a NaN's pattern gives: Unique, NanLaws.
 pub mod Unique
+pub mod NanLaws
