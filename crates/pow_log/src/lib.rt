@@ -5,7 +5,7 @@
 // are exact. For a huge y and |1 - x| up to 2^-20 near_one has log(1 + t) = t - t^2/2 + t^3/3 - t^4/4.
 ghost use mathlib.Core.Path.{_≡_};
 ghost use Prim.Native.Nat.{ℕ, _≤_};
-ghost use lib.IntN.{pos, negℤ, _-ℤ_};
+ghost use lib.IntN.{pos, _-ℤ_};
 ghost use lib.Ieee.{Float};
 ghost use Rattle.words.specs.Pick.{if_then_else_};
 ghost use Rattle.words.specs.Tests.{_=?_};

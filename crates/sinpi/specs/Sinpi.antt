@@ -1,6 +1,6 @@
 -- sin(pi x) for x > 0, as the Rust has it: sinpi in tgamma.rs and sin_pi in lgamma_r.rs. The two texts differ only in the order of the
--- factors of 4.0 * x, which is no matter for the bits. sinpiS is what `sinpi` promises; turnS and quarterS serve it, and are what the private
--- `turn` and `quarter` promise.
+-- factors of 4.0 * x, which is no matter for the bits. sinpiS is what `sinpi` promises; turnS and quarterS serve it, and turnS is what the private
+-- `turn` promises.
 use Prim.Native.Nat.{ℕ, _+_, _/_}
 use lib.IntN.{pos, natAbs}
 use lib.Ieee.{Float, binary64, neg, ofInt}

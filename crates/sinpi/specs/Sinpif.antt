@@ -1,6 +1,6 @@
 -- sin(pi x) for x > 0 in f32, as the Rust has it: sin_pi in lgammaf_r.rs. x mod 2 and n are worked out in f32, y and the kernels in f64
--- (an f32 is an f64 of the same value, so `x as f64` is x). sinpifS is what `sinpif` promises; turnS and quarterS serve it, and are what the
--- private `turn` and `quarter` of module `single` promise.
+-- (an f32 is an f64 of the same value, so `x as f64` is x). sinpifS is what `sinpif` promises; turnS and quarterS serve it, and turnS is what
+-- the private `turn` of module `single` promises.
 use Prim.Native.Nat.{ℕ, _+_, _/_}
 use lib.IntN.{pos, natAbs}
 use lib.Ieee.{Float, binary32, binary64, neg, ofInt}

@@ -5,7 +5,6 @@ use lib.Ieee.Bits.{toBits-lt}
 use Prim.Native.Nat.{_^_, _<_}
 use native.Mathlib.Omega.{arith}
 use lib.Ieee.{binary64, ofBits, toBits, sub, div}
-use borrow.Author.Needs.{needs}
 use Rattle.words.proofs.PatternLaws.{is-nan, not-nan, cut-number}
 use Rattle.words.proofs.bits.clear_low_word.Statement.{statement}
 use Rattle.words.proofs.bits.clear_low_word.Tie as tie
