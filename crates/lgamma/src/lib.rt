@@ -6,6 +6,7 @@ pub mod below2;
 pub mod from2;
 
 ghost use mathlib.Core.Path.{_≡_};
+ghost use lib.Ieee.{Float};
 ghost use Rattle.lgamma.specs.Plan.{sizeS, reflectedS};
 ghost use Rattle.lgamma.specs.Lgamma64.{lgamma64, lgammaS};
 use crate::below2::below2;

@@ -4,6 +4,7 @@ pub mod below2;
 pub mod from2;
 
 ghost use mathlib.Core.Path.{_≡_};
+ghost use lib.Ieee.{Float};
 ghost use Rattle.lgamma.specs.Plan.{sizeS, reflectedS};
 ghost use Rattle.lgammaf.specs.Lgammaf.{lgamma32, lgammafS};
 use crate::below2::below2;
