@@ -8,8 +8,8 @@ use lib.ListN.{length, drop, length-append, drop-of-length-le}
 use lib.Seq.{sets, sets-eq}
 use Rattle.digits.specs.Digits.{digits}
 use Rattle.stream.specs.Batch.{batchS}
-use Rattle.stream.specs.Post.{Did}
-use Rattle.stream.specs.declared.Report.{Report}
+use Rattle.records.specs.Did.{Did}
+use Rattle.records.specs.declared.Report.{Report}
 use Rattle.digits.proofs.DigitLaws.{length-digits}
 use Rattle.digits.proofs.StoreLaws.{sets-append}
 use Rattle.entries.specs.Batch.{reportOf, callS, Made}

@@ -5,7 +5,7 @@ use Prim.Native.Nat.{ℕ}
 use lib.IntN.{ℤ}
 use contract.Lifetimes.{Lfts}
 use denote.Ref.{now}
-use Rattle.stream.specs.Run.{Out}
+use Rattle.records.specs.Run.{Out}
 use Rattle.entries.specs.Post.{Reported}
 use Rattle.entries.proofs.report.rvt_batch.Reads as batch
 use Rattle.entries.proofs.rvt_tgamma.Reads as tgamma

@@ -7,7 +7,7 @@ use lib.Dec.{eqb}
 use lib.Seq.{sets}
 use Rattle.words.specs.Pick.{pick}
 use Rattle.digits.specs.Digits.{digits}
-use Rattle.stream.specs.Run.{Out}
+use Rattle.records.specs.Run.{Out}
 use Rattle.stream.specs.Batch.{batchS}
 
 -- a call: its code, and the two buffers as it leaves them

@@ -3,7 +3,7 @@ use mathlib.Core.Path.{_≡_}
 use mathlib.Core.List.{List}
 use Prim.Native.Nat.{ℕ}
 use lib.Seq.{sets}
-use Rattle.stream.specs.Run.{Out}
+use Rattle.records.specs.Run.{Out}
 
 pub record Reported (o : Out) (part : Out → ℕ) (r : ℕ) (before after : List ℕ) : Type 0 where
   pub number : r ≡ part o

@@ -4,7 +4,7 @@ use Prim.Native.Nat.{ℕ, _%_, _^_, _<_}
 use native.Mathlib.Nat.{mod-eq-of-lt}
 use lib.IntN.{ℤ}
 use Rattle.kinds.specs.Shape.{signByte}
-use Rattle.replies.specs.declared.Reply.{Reply}
+use Rattle.records.specs.declared.Reply.{Reply}
 
 abbrev pub numberS : ℕ → ℕ → ℕ → Reply
 numberS h w b = record { head = h; width = w; bits = b; more = 0; extra = 0 }

@@ -14,11 +14,11 @@ use Rattle.kinds.specs.Shape.{Shape, shape, total, shapeIn, requestLength, answ
 use Rattle.kinds.specs.Kinds.{shapes, shapeOf}
 use Rattle.kinds.proofs.Every.{and-left, and-right}
 use Rattle.kinds.proofs.ShapeLaws.{body-small, answer-light, answer-longest}
-use Rattle.replies.specs.Reply.{bytesOf}
-use Rattle.replies.specs.Row.{Row, noRow, rowIn}
+use Rattle.records.specs.Reply.{bytesOf}
+use Rattle.records.specs.Row.{Row, noRow, rowIn}
 use Rattle.replies.specs.Table.{Meaning, meanings, firstWidth, otherWidths, answer, rowOf, table, replyS}
-use Rattle.replies.specs.declared.Reply.{Reply}
-use Rattle.replies.proofs.ReplyLaws.{length-bytes}
+use Rattle.records.specs.declared.Reply.{Reply}
+use Rattle.records.proofs.ReplyLaws.{length-bytes}
 
 -- k is the kind of no row: what is left of `rest` where it was tested against each, one after the other
 abbrev pub Apart : Type 0 → List Row → ℕ → Type 0

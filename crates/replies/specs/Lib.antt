@@ -1,4 +1,2 @@
--- What the replies are. Read in this order.
-pub mod Reply
-pub mod Row
+-- What the replies are, behind records/specs.
 pub mod Table

@@ -12,8 +12,8 @@ use Rattle.erff.specs.Erff.{erffS, erfcfS}
 use Rattle.kinds.specs.Shape.{Shape, total, signByte}
 use Rattle.kinds.specs.Kinds.{shapeOf}
 use Rattle.by_bits.specs.ByBits.{onBits, valueOnBits, signOnBits}
-use Rattle.replies.specs.declared.Reply.{Reply}
-use Rattle.replies.specs.Row.{Row, rowIn}
+use Rattle.records.specs.declared.Reply.{Reply}
+use Rattle.records.specs.Row.{Row, rowIn}
 
 -- what a kind's answer says to the number that a body makes: the first value, and all that stands behind it as one number
 pub record Meaning : Type 0 where

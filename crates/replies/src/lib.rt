@@ -7,23 +7,12 @@ use by_bits::erff_bits;
 use by_bits::lgamma_r_bits;
 use by_bits::lgammaf_r_bits;
 use by_bits::tgamma_bits;
-use digits::put;
 use kinds::sign_byte;
+use records::Reply;
 ghost use mathlib.Core.Path.{_≡_};
 ghost use Prim.Native.Nat.{_%_, _^_};
-ghost use lib.Seq.{sets};
 ghost use Rattle.kinds.specs.Shape.{signByte};
-ghost use Rattle.replies.specs.Reply.{bytesOf};
 ghost use Rattle.replies.specs.Table.{replyS};
-
-// An answer before it is written: its first byte, then `width` bytes of `bits` and `more` bytes of `extra`.
-pub struct Reply {
-    pub head: u8,
-    pub width: usize,
-    pub bits: u64,
-    pub more: usize,
-    pub extra: u64,
-}
 
 // A reply of one number.
 fn number(head: u8, width: usize, bits: u64) -> Reply
@@ -116,20 +105,4 @@ pub fn reply_to(kind: u8, bits: u64) -> Reply
         20 => erfcf_reply(bits),
         _ => number(0, 0, 0),
     }
-}
-
-// Writes a reply from `at` on, as much of it as there is room for.
-pub fn write(s: &mut [u8], at: usize, r: Reply)
-    ensures { λ _. ⌜ now (s .exit) ≡ sets (now (s .entry)) at (bytesOf r) ⌝ }
-{
-    if s.len() <= at {
-        return;
-    }
-    s[at] = r.head;
-    let place = at + 1;
-    put(s, place, r.width, r.bits);
-    if s.len() - place <= r.width {
-        return;
-    }
-    put(s, place + r.width, r.more, r.extra);
 }

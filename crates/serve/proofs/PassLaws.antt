@@ -13,7 +13,7 @@ use mir.ValLaws.{toZ-ofZ}
 use Rattle.io.specs.Counts.{clamped}
 use Rattle.libc.specs.Io.{Moved}
 use Rattle.replies.specs.Table.{table}
-use Rattle.stream.specs.Run.{run}
+use Rattle.records.specs.Run.{run}
 use Rattle.decide.specs.Decide.{afterS}
 use Rattle.serve.specs.Session.{Heard, brought, failed, answered, piece, Event, there}
 use Rattle.serve.specs.Turn.{Turned}

@@ -13,13 +13,13 @@ use borrow.Author.Tests.{eqb-true, eqb-false}
 use lib.Dec.{eqb}
 use lib.ListN.{length, drop, length-append, length-drop}
 use Rattle.replies.specs.Table.{table}
-use Rattle.stream.specs.Run.{Out, ahead, run}
+use Rattle.records.specs.Run.{Out, ahead, run}
 use Rattle.stream.proofs.BatchLaws.{table-light, enough-room, batch-same, batches-are-whole}
-use Rattle.stream.proofs.PieceLaws.{whole, pieces, Roomy}
-use Rattle.stream.proofs.RoomLaws.{run-easy}
-use Rattle.stream.proofs.RunLaws.{run-within}
-use Rattle.stream.proofs.SplitLaws.{run-more}
-use Rattle.stream.proofs.StopLaws.{stays-unknown}
+use Rattle.records.proofs.PieceLaws.{whole, pieces, Roomy}
+use Rattle.records.proofs.RoomLaws.{run-easy}
+use Rattle.records.proofs.RunLaws.{run-within}
+use Rattle.records.proofs.SplitLaws.{run-more}
+use Rattle.records.proofs.StopLaws.{stays-unknown}
 use Rattle.decide.specs.declared.Next.{Next}
 use Rattle.decide.specs.declared.Next.the-variants.{Go, Close, Break}
 use Rattle.decide.proofs.DecideLaws.{at-unknown, at-end, at-more, when-close, closing-is, end-elim}

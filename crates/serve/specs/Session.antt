@@ -5,7 +5,7 @@ use Prim.Native.Nat.{ℕ, _≤_}
 use lib.IntN.{ℤ, pos, negsuc}
 use lib.ListN.{length, drop}
 use Rattle.replies.specs.Table.{table}
-use Rattle.stream.specs.Run.{Out, run}
+use Rattle.records.specs.Run.{Out, run}
 use Rattle.decide.specs.Decide.{afterS, closingS}
 use Rattle.decide.specs.declared.Next.{Next}
 use Rattle.decide.specs.declared.Next.the-variants.{Go, Close, Break}
@@ -57,6 +57,16 @@ says Break x later = record { bytes = x; code = 255 }
 unfoldable pub session : ℕ → List ℕ → List Event → Said
 session room rest [] = record { bytes = []; code = 255 }
 session room rest (e ∷ es) = says (nextOf room rest e) (done room rest e .bytes) (session room (left room rest e) es)
+
+-- Among these events is one at which the program stops.
+abbrev pub stopsOr : Next → Type 0 → Type 0
+stopsOr (Go kept) later = later
+stopsOr (Close code) later = Unit
+stopsOr Break later = Unit
+
+unfoldable pub Stops : ℕ → List ℕ → List Event → Type 0
+Stops room rest [] = ⊥
+Stops room rest (e ∷ es) = stopsOr (nextOf room rest e) (Stops room (left room rest e) es)
 
 -- An input that comes in such pieces, where no read and no write fails: an event a piece, and the end of the input.
 abbrev pub delivered : List (List ℕ) → List Event

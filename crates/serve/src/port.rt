@@ -6,7 +6,7 @@ ghost use Prim.Native.Nat.{_<_};
 ghost use lib.ListN.{length};
 ghost use Rattle.libc.specs.Io.{Moved};
 ghost use Rattle.replies.specs.Table.{table};
-ghost use Rattle.stream.specs.Run.{run};
+ghost use Rattle.records.specs.Run.{run};
 ghost use Rattle.decide.specs.Decide.{closingS};
 
 // Reads once. A read into no room would look like the end of the input.

@@ -10,14 +10,14 @@ use Rattle.digits.specs.Digits.{word}
 use Rattle.digits.proofs.DigitLaws.{word-take, word-below}
 use Rattle.kinds.specs.Kinds.{shapeOf}
 use Rattle.kinds.proofs.ShapeLaws.{body-small}
-use Rattle.replies.specs.declared.Reply.{Reply}
-use Rattle.replies.specs.Row.{rowIn}
+use Rattle.records.specs.declared.Reply.{Reply}
+use Rattle.records.specs.Row.{rowIn}
 use Rattle.replies.specs.Table.{table, replyS}
 use Rattle.replies.proofs.TableLaws.{row-width, width-small, reply-light, reply-whole}
-use Rattle.stream.specs.Run.{run}
-use Rattle.stream.proofs.RoomLaws.{Light, run-easy, run-same}
-use Rattle.stream.proofs.StopLaws.{Narrow}
-use Rattle.stream.proofs.PieceLaws.{whole, pieces, Roomy, pieces-are-whole}
+use Rattle.records.specs.Run.{run}
+use Rattle.records.proofs.RoomLaws.{Light, run-easy, run-same}
+use Rattle.records.proofs.StopLaws.{Narrow}
+use Rattle.records.proofs.PieceLaws.{whole, pieces, Roomy, pieces-are-whole}
 
 -- the reply to the body of a record, by the code's steps: how many bytes the body has, their number, and the reply to it
 pub answered : (s : List ℕ) (at w k b : ℕ) (r : Reply) → ((i : ℕ) → getD s i 0 < 256) → w ≡ shapeOf k .body → b ≡ word 8 (take w (drop at s)) → r ≡ replyS k b →

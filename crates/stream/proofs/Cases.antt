@@ -3,9 +3,9 @@ use mathlib.Core.Path.{_≡_, refl}
 use mathlib.Core.List.{List, [], _∷_}
 use Prim.Native.Nat.{ℕ}
 use Rattle.digits.specs.Digits.{digits}
-use Rattle.replies.specs.Reply.{bytesOf}
-use Rattle.replies.specs.Row.{rowIn}
-use Rattle.stream.specs.Run.{Out, run, steps, one}
+use Rattle.records.specs.Reply.{bytesOf}
+use Rattle.records.specs.Row.{rowIn}
+use Rattle.records.specs.Run.{Out, run, steps, one}
 use Rattle.kinds.specs.Shape.{shapeIn}
 use Rattle.kinds.specs.Kinds.{shapes}
 use Rattle.replies.specs.Table.{meanings, table}

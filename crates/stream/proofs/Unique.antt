@@ -4,9 +4,9 @@ use mathlib.Core.List.{List}
 use Prim.Native.Nat.{ℕ}
 use contract.Lifetimes.{Lfts}
 use denote.Ref.{RefT, now, ptr}
-use Rattle.stream.specs.Run.{Out}
-use Rattle.stream.specs.Post.{Did}
-use Rattle.stream.specs.declared.Report.{Report}
+use Rattle.records.specs.Run.{Out}
+use Rattle.records.specs.Did.{Did}
+use Rattle.records.specs.declared.Report.{Report}
 use Rattle.stream.proofs.batch.Reads as batch
 use Rattle.stream.proofs.batch_rest.Reads as rest
 use Rattle.stream.proofs.batch_front.Reads as front

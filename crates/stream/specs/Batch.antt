@@ -3,7 +3,7 @@ use Prim.Native.Nat.{ℕ}
 use mathlib.Core.List.{List}
 use lib.ListN.{length}
 use Rattle.replies.specs.Table.{table}
-use Rattle.stream.specs.Run.{Out, run}
+use Rattle.records.specs.Run.{Out, run}
 
 abbrev pub batchS : List ℕ → List ℕ → Out
 batchS requests answers = run table requests (length answers)

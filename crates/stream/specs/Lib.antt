@@ -1,6 +1,3 @@
--- What the request stream is. Read in this order.
-pub mod Codes
-pub mod Tally
-pub mod Run
+-- What the request stream is. Read in this order, behind records/specs.
 pub mod Batch
 pub mod Post

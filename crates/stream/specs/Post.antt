@@ -5,14 +5,7 @@ use Prim.Native.Nat.{ℕ, _+_}
 use lib.ListN.{drop}
 use lib.Seq.{sets}
 use denote.Ref.{RefT, now, ptr}
-use Rattle.stream.specs.Run.{Out}
-use Rattle.stream.specs.declared.Report.{Report}
-
--- a report says what was done, and the buffer has the bytes written from a place on, and is else as before
-pub record Did (o : Out) (r : Report) (place : ℕ) (before after : List ℕ) : Type 0 where
-  pub code : r .code ≡ o .code
-  pub tally : r .tally ≡ o .tally
-  pub buffer : after ≡ sets before place (o .bytes)
+use Rattle.records.specs.Run.{Out}
 
 -- the second form: r is the unread tail of s, a part of that lent slice
 pub record Rest (o : Out) (s r : RefT (List ℕ)) (before after : List ℕ) : Type 0 where

@@ -1,16 +1,19 @@
 // The request stream: a byte of kind and the argument's bits in, the answer's kind and the value's bits out, record by record.
 use digits::get;
 use kinds::body;
+use records::Report;
+use records::Tally;
+use records::write;
 use replies::reply_to;
-use replies::write;
 ghost use Prim.Native.Nat.{_+_, _-_, _≤_, _<_, _^_};
 ghost use mathlib.Core.Path.{_≡_};
 ghost use lib.ListN.{length, drop};
 ghost use Rattle.replies.specs.Table.{table};
-ghost use Rattle.stream.specs.Tally.{_⊞_};
-ghost use Rattle.stream.specs.Run.{one};
+ghost use Rattle.records.specs.Tally.{_⊞_};
+ghost use Rattle.records.specs.Run.{one};
 ghost use Rattle.stream.specs.Batch.{batchS};
-ghost use Rattle.stream.specs.Post.{Did, Rest, Front};
+ghost use Rattle.records.specs.Did.{Did};
+ghost use Rattle.stream.specs.Post.{Rest, Front};
 
 // Why a batch stopped: the requests are used up; a kind that is not in the table; an incomplete body; an answer longer than the room left.
 pub const DONE: u8 = 0;
@@ -20,18 +23,6 @@ pub const UNKNOWN: u8 = 1;
 pub const CUT: u8 = 2;
 
 pub const FULL: u8 = 3;
-
-// How many records a batch answered, and how many bytes it read and wrote.
-pub struct Tally {
-    pub records: usize,
-    pub read: usize,
-    pub written: usize,
-}
-
-pub struct Report {
-    pub code: u8,
-    pub tally: Tally,
-}
 
 // Nothing done, for the reason of a code.
 fn stopped(code: u8) -> Report
@@ -43,6 +34,21 @@ fn stopped(code: u8) -> Report
             records: 0,
             read: 0,
             written: 0,
+        },
+    }
+}
+
+// A record with a body of `width` bytes, answered by `written`.
+fn took(width: usize, written: usize) -> Report
+    requires { ⌜ 1 + width < 2 ^ 64 ⌝ }
+    ensures { λ r. ⌜ r ≡ record { code = 0; tally = record { records = 1; read = 1 + width; written = written } } ⌝ }
+{
+    Report {
+        code: DONE,
+        tally: Tally {
+            records: 1,
+            read: 1 + width,
+            written,
         },
     }
 }
@@ -82,14 +88,7 @@ fn step(requests: &[u8], at: usize, answers: &mut [u8], out: usize) -> Report
         return stopped(FULL);
     }
     write(answers, out, r);
-    Report {
-        code: DONE,
-        tally: Tally {
-            records: 1,
-            read: 1 + width,
-            written: n,
-        },
-    }
+    took(width, n)
 }
 
 // Reads whole records from the front of `requests` and writes their answers to the front of `answers`, until one of the four codes.

@@ -1,7 +1,7 @@
 -- `entries::rvt_batch_records` meets its contract: the count of the batch's tally. Assumes nothing.
 use mathlib.Core.Path.{ap}
 use borrow.Author.Needs.{needs}
-use Rattle.stream.specs.declared.Tally.{Tally}
+use Rattle.records.specs.declared.Tally.{Tally}
 use Rattle.entries.proofs.rvt_batch_records.Statement.{statement}
 use Rattle.entries.proofs.rvt_batch_records.Tie as tie
 

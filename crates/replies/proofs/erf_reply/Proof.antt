@@ -5,7 +5,7 @@ use Rattle.erf.specs.Erf64.{erfS}
 use Rattle.kinds.specs.Shape.{shapeIn}
 use Rattle.kinds.specs.Kinds.{shapes}
 use Rattle.by_bits.specs.ByBits.{onBits}
-use Rattle.replies.specs.Row.{rowIn}
+use Rattle.records.specs.Row.{rowIn}
 use Rattle.replies.specs.Table.{meanings, table}
 use Rattle.replies.proofs.RowLaws.{plain-row, eight}
 use Rattle.replies.proofs.erf_reply.Statement.{statement}

@@ -5,7 +5,7 @@ use Rattle.erff.specs.Erff.{erfcfS}
 use Rattle.kinds.specs.Shape.{shapeIn}
 use Rattle.kinds.specs.Kinds.{shapes}
 use Rattle.by_bits.specs.ByBits.{onBits}
-use Rattle.replies.specs.Row.{rowIn}
+use Rattle.records.specs.Row.{rowIn}
 use Rattle.replies.specs.Table.{meanings, table}
 use Rattle.replies.proofs.RowLaws.{plain-row}
 use Rattle.replies.proofs.erfcf_reply.Statement.{statement}

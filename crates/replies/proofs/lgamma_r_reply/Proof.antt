@@ -8,7 +8,7 @@ use Rattle.lgamma.specs.Lgamma64.{lgammaS}
 use Rattle.kinds.specs.Shape.{shapeIn}
 use Rattle.kinds.specs.Kinds.{shapes}
 use Rattle.by_bits.specs.ByBits.{valueOnBits, signOnBits}
-use Rattle.replies.specs.Row.{rowIn}
+use Rattle.records.specs.Row.{rowIn}
 use Rattle.replies.specs.Table.{meanings, table}
 use Rattle.replies.proofs.RowLaws.{signed-row, eight}
 use Rattle.replies.proofs.lgamma_r_reply.Statement.{statement}

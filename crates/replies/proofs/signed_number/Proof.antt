@@ -5,7 +5,7 @@ use mir.Syntax.{w32}
 use mir.ValLaws.{toZ-ofZ}
 use borrow.Author.Needs.{needs}
 use Rattle.kinds.specs.Shape.{signByte}
-use Rattle.replies.specs.declared.Reply.{Reply}
+use Rattle.records.specs.declared.Reply.{Reply}
 use Rattle.replies.proofs.signed_number.Statement.{statement}
 use Rattle.replies.proofs.signed_number.Tie as tie
 

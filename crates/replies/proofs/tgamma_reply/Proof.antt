@@ -5,7 +5,7 @@ use Rattle.tgamma.specs.Tgamma.{tgammaS}
 use Rattle.kinds.specs.Shape.{shapeIn}
 use Rattle.kinds.specs.Kinds.{shapes}
 use Rattle.by_bits.specs.ByBits.{onBits}
-use Rattle.replies.specs.Row.{rowIn}
+use Rattle.records.specs.Row.{rowIn}
 use Rattle.replies.specs.Table.{meanings, table}
 use Rattle.replies.proofs.RowLaws.{plain-row, eight}
 use Rattle.replies.proofs.tgamma_reply.Statement.{statement}

@@ -12,7 +12,7 @@ use Rattle.serve.proofs.turns.Tie as tie
 
 abbrev Inv-loop : tie.InvT-loop
 Inv-loop buf₀ answers₀ have₀ turns₀ buf answers have turns =
-    ((have ≤ 8) × ((length buf ≡ length buf₀) × (length answers ≡ length answers₀))) × Going (length buf₀) (length answers₀) (take have buf)
+    ((have ≤ 8) × ((length buf ≡ length buf₀) × (length answers ≡ length answers₀))) × Going (length buf₀) (length answers₀) turns (take have buf)
 
 abbrev μ-loop : tie.MeasureT-loop
 μ-loop buf₀ answers₀ have₀ turns₀ buf answers have turns = turns
@@ -55,8 +55,8 @@ loop-again c =
     let a = start p .args in
     let l = at p .loop in
     let g =
-    going-on (length (a .buf .now)) (length (a .answers .now)) (take (l .have) (l .buf)) (l .inv .1) (p .pass .result) (p .pass .last .0)
-    (passed p) (same p) (k .given .0 .0) (k .given .1) (start p .pre .1) in
+    going-on (length (a .buf .now)) (length (a .answers .now)) (l .turns) (take (l .have) (l .buf)) (l .inv .1) (p .pass .result) (p .pass .last .0)
+    (passed p) (same p) (k .given .0 .0) (k .given .1) (start p .pre .1) (omega arith) in
     ((omega (arith, g .0), (same p, p .pass .kept .1 .1 .0 ∙ l .inv .0 .1 .1)), g .1)
 
 enum-known-code : tie.Need-enum-known-code Inv-loop μ-loop
@@ -74,7 +74,7 @@ returns c =
     let p = c .before .before .before .before .before .before .before in
     let a = start p .args in
     let l = at p .loop in
-    going-close (length (a .buf .now)) (length (a .answers .now)) (take (l .have) (l .buf)) (l .inv .1) (p .pass .result) (p .pass .last .0)
+    going-close (length (a .buf .now)) (length (a .answers .now)) (l .turns) (take (l .have) (l .buf)) (l .inv .1) (p .pass .result) (p .pass .last .0)
     (passed p) (same p) (k .given .0 .0) (k .given .1)
 
 enum-told : tie.Need-enum-told Inv-loop μ-loop
@@ -91,7 +91,7 @@ returns-2 c =
     let p = c .before .before .before .before .before .before in
     let a = start p .args in
     let l = at p .loop in
-    going-break (length (a .buf .now)) (length (a .answers .now)) (take (l .have) (l .buf)) (l .inv .1) (p .pass .result) (p .pass .last .0)
+    going-break (length (a .buf .now)) (length (a .answers .now)) (l .turns) (take (l .have) (l .buf)) (l .inv .1) (p .pass .result) (p .pass .last .0)
     (passed p) (same p) (c .enum-told .given .1)
 
 same-length-5 : tie.Need-same-length-5 Inv-loop μ-loop
@@ -104,7 +104,7 @@ returns-3 : tie.Need-returns-3 Inv-loop μ-loop
 returns-3 c =
     let l = c .before .loop in
     let a = c .before .before .before .before .args in
-    going-out (length (a .buf .now)) (length (a .answers .now)) (take (l .have) (l .buf)) (l .inv .1)
+    going-out (length (a .buf .now)) (length (a .answers .now)) (l .turns) (take (l .have) (l .buf)) (l .inv .1) (omega arith)
 
 pub turns-spec : {M : Type 1} → statement M
 turns-spec =

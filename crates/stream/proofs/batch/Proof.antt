@@ -5,9 +5,9 @@ use Prim.Native.Nat.{ℕ, _-_}
 use native.Mathlib.Omega.{arith}
 use lib.ListN.{length}
 use Rattle.replies.specs.Table.{table}
-use Rattle.stream.specs.Tally.{_⊞_}
-use Rattle.stream.specs.declared.Tally.{Tally}
-use Rattle.stream.proofs.LoopLaws.{Going, going-none, going-on, going-further, going-done}
+use Rattle.records.specs.Tally.{_⊞_}
+use Rattle.records.specs.declared.Tally.{Tally}
+use Rattle.records.proofs.LoopLaws.{Going, going-none, going-on, going-further, going-done}
 use Rattle.stream.proofs.batch.Statement.{statement}
 use Rattle.stream.proofs.batch.Tie as tie
 

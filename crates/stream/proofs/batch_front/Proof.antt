@@ -1,8 +1,8 @@
 -- `stream::batch_front` meets its contract: the front of as many bytes as were written. Assumes nothing.
 use mathlib.Core.Path.{refl, ap}
 use Rattle.replies.specs.Table.{table}
-use Rattle.stream.specs.declared.Tally.{Tally}
-use Rattle.stream.proofs.LoopLaws.{front, front-length}
+use Rattle.records.specs.declared.Tally.{Tally}
+use Rattle.records.proofs.LoopLaws.{front, front-length}
 use borrow.Author.Needs.{needs}
 use Rattle.stream.proofs.batch_front.Statement.{statement}
 use Rattle.stream.proofs.batch_front.Tie as tie

@@ -3,8 +3,8 @@ use mathlib.Core.Path.{ap}
 use Prim.Native.Nat.{ℕ, _+_}
 use lib.ListN.{length}
 use Rattle.replies.specs.Table.{table}
-use Rattle.stream.specs.declared.Tally.{Tally}
-use Rattle.stream.proofs.LoopLaws.{read-in, unread}
+use Rattle.records.specs.declared.Tally.{Tally}
+use Rattle.records.proofs.LoopLaws.{read-in, unread}
 use borrow.Author.Needs.{needs}
 use Rattle.stream.proofs.batch_rest.Statement.{statement}
 use Rattle.stream.proofs.batch_rest.Tie as tie

@@ -6,12 +6,12 @@ use native.Mathlib.Omega.{arith}
 use borrow.Author.Needs.{needs}
 use lib.ListN.{length, drop, getD}
 use Rattle.digits.specs.Digits.{word}
-use Rattle.replies.specs.Reply.{bytesOf}
-use Rattle.replies.specs.Row.{rowIn}
+use Rattle.records.specs.Reply.{bytesOf}
+use Rattle.records.specs.Row.{rowIn}
 use Rattle.replies.specs.Table.{table}
-use Rattle.replies.proofs.ReplyLaws.{length-bytes}
+use Rattle.records.proofs.ReplyLaws.{length-bytes}
 use Rattle.replies.proofs.TableLaws.{row-width, reply-longest}
-use Rattle.stream.proofs.StepLaws.{at-end, at-unknown, at-cut, at-full, at-whole, did-stop, did-took}
+use Rattle.records.proofs.StepLaws.{at-end, at-unknown, at-cut, at-full, at-whole, did-stop, did-took}
 use Rattle.stream.proofs.BatchLaws.{answered}
 use Rattle.stream.proofs.step.Statement.{statement}
 use Rattle.stream.proofs.step.Tie as tie
@@ -128,19 +128,19 @@ returns-4 c =
 write-requires : tie.Need-write-requires
 write-requires c κs = search needs
 
-add-t14 : tie.Need-add-t14
-add-t14 c = search needs
+took-requires : tie.Need-took-requires
+took-requires c κs = search needs
 
 same-length : tie.Need-same-length
 same-length c = search needs
 
 returns-5 : tie.Need-returns-5
 returns-5 c =
-    let w = c .before .before in
+    let w = c .before .before .before in
     let p = w .before .before .before .before .before in
     let b = looked p in
     let n = length-bytes (p .reply-to .result) in
-    did-took _ (b .body .result) _ (out b) (reply p) (answers b) (w .write .last .0)
+    did-took _ _ (b .body .result) _ (out b) (reply p) (answers b) (w .write .last .0) (c .took .ensures)
     (at-whole table (s b) (at b) (room b) (b .body .result) (omega arith) (width-is b) (reply p) (reply-is p) (p .before .before .before .if2 .left) (omega arith) (omega arith))
     (sym n) (w .write .ensures)
 
@@ -166,6 +166,6 @@ step-spec =
     stopped-requires-4
     returns-4
     write-requires
-    add-t14
+    took-requires
     same-length
     returns-5)

@@ -8,10 +8,10 @@ use lib.ListN.{length, take, drop}
 use lib.Seq.{length-take-le, length-sets}
 use Rattle.replies.specs.Table.{table}
 use Rattle.stream.specs.Batch.{batchS}
-use Rattle.stream.specs.Run.{run}
-use Rattle.stream.specs.declared.Tally.{Tally}
-use Rattle.stream.proofs.RunLaws.{run-within}
-use Rattle.stream.proofs.LoopLaws.{front, front-in, front-length}
+use Rattle.records.specs.Run.{run}
+use Rattle.records.specs.declared.Tally.{Tally}
+use Rattle.records.proofs.RunLaws.{run-within}
+use Rattle.records.proofs.LoopLaws.{front, front-in, front-length}
 use Rattle.serve.proofs.ShiftLaws.{take-drop}
 use Rattle.serve.proofs.relay.answer.Statement.{statement}
 use Rattle.serve.proofs.relay.answer.Tie as tie

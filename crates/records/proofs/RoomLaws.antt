@@ -6,12 +6,12 @@ use Prim.Native.Nat.{ℕ, zero, suc, _+_, _-_, _*_, _≤_, _<_}
 use native.Mathlib.Omega.{arith}
 use lib.ListN.{length, drop, length-drop}
 use Rattle.digits.specs.Digits.{word}
-use Rattle.replies.specs.Reply.{bytesOf}
-use Rattle.replies.specs.Row.{Row, rowIn}
-use Rattle.stream.specs.Run.{Out, ahead, choose, one, run}
-use Rattle.stream.proofs.RunLaws.{choose-elim, sound, run-stop, run-go, onward}
-use Rattle.stream.proofs.StepLaws.{choose-unknown, choose-cut, choose-whole}
-use Rattle.stream.proofs.SplitLaws.{zero-or}
+use Rattle.records.specs.Reply.{bytesOf}
+use Rattle.records.specs.Row.{Row, rowIn}
+use Rattle.records.specs.Run.{Out, ahead, choose, one, run}
+use Rattle.records.proofs.RunLaws.{choose-elim, sound, run-stop, run-go, onward}
+use Rattle.records.proofs.StepLaws.{choose-unknown, choose-cut, choose-whole}
+use Rattle.records.proofs.SplitLaws.{zero-or}
 
 -- an answer takes at most twice the bytes of its request
 abbrev pub Light : List Row → Type 0

@@ -8,13 +8,13 @@ use borrow.Author.Tests.{lt-ltb, le-ltb, eq-eqb, ne-eqb}
 use lib.ListN.{length, drop, getD, length-drop, drop-of-length-le}
 use lib.Seq.{sets, drop-cons}
 use Rattle.digits.specs.Digits.{word}
-use Rattle.replies.specs.Reply.{bytesOf}
-use Rattle.replies.specs.Row.{Row, rowIn}
-use Rattle.stream.specs.Codes.{DONE, UNKNOWN, CUT, FULL}
-use Rattle.stream.specs.Tally.{nothing}
-use Rattle.stream.specs.Run.{Out, stop, took, choose, one}
-use Rattle.stream.specs.Post.{Did}
-use Rattle.stream.specs.declared.Report.{Report}
+use Rattle.records.specs.Reply.{bytesOf}
+use Rattle.records.specs.Row.{Row, rowIn}
+use Rattle.records.specs.Codes.{DONE, UNKNOWN, CUT, FULL}
+use Rattle.records.specs.Tally.{nothing}
+use Rattle.records.specs.Run.{Out, stop, took, choose, one}
+use Rattle.records.specs.Did.{Did}
+use Rattle.records.specs.declared.Report.{Report}
 
 pub at-end : (T : List Row) (s : List ℕ) (at room : ℕ) → length s ≤ at → one T (drop at s) room ≡ stop DONE
 unfolding one
@@ -68,6 +68,6 @@ module _ (T : List Row) (s : List ℕ) (at room w : ℕ) (h : at < length s) (ew
 pub did-stop : (o : Out) (r : Report) (c out : ℕ) (a : List ℕ) → r ≡ record { code = c; tally = nothing } → o ≡ stop c → Did o r out a a
 did-stop o r c out a er eo = rw (er, eo) (record { code = refl; tally = refl; buffer = refl })
 
-pub did-took : (o : Out) (w n out : ℕ) (x a b : List ℕ) → o ≡ took w x → n ≡ length x → b ≡ sets a out x →
-    Did o (record { code = DONE; tally = record { records = 1; read = 1 + w; written = n } }) out a b
-did-took o w n out x a b e l f = rw (e, l) (record { code = refl; tally = refl; buffer = f })
+pub did-took : (o : Out) (r : Report) (w n out : ℕ) (x a b : List ℕ) → r ≡ record { code = DONE; tally = record { records = 1; read = 1 + w; written = n } } →
+    o ≡ took w x → n ≡ length x → b ≡ sets a out x → Did o r out a b
+did-took o r w n out x a b er eo l f = rw (er, eo, l) (record { code = refl; tally = refl; buffer = f })

@@ -6,14 +6,14 @@ use Prim.Native.Nat.{ℕ, suc, _-_, _≤_}
 use native.Mathlib.Omega.{arith}
 use lib.ListN.{length, drop}
 use Rattle.digits.specs.Digits.{word}
-use Rattle.replies.specs.Reply.{bytesOf}
-use Rattle.replies.specs.Row.{Row, rowIn}
-use Rattle.stream.specs.Codes.{UNKNOWN, FULL}
-use Rattle.stream.specs.Run.{Out, stop, ahead, choose, one, run}
-use Rattle.stream.proofs.TallyLaws.{⊞-nothing}
-use Rattle.stream.proofs.RunLaws.{choose-elim, run-stop}
-use Rattle.stream.proofs.StepLaws.{choose-unknown}
-use Rattle.stream.proofs.SplitLaws.{run-more, run-ends}
+use Rattle.records.specs.Reply.{bytesOf}
+use Rattle.records.specs.Row.{Row, rowIn}
+use Rattle.records.specs.Codes.{UNKNOWN, FULL}
+use Rattle.records.specs.Run.{Out, stop, ahead, choose, one, run}
+use Rattle.records.proofs.TallyLaws.{⊞-nothing}
+use Rattle.records.proofs.RunLaws.{choose-elim, run-stop}
+use Rattle.records.proofs.StepLaws.{choose-unknown}
+use Rattle.records.proofs.SplitLaws.{run-more, run-ends}
 
 -- a record that is refused for its kind is refused so with more behind it and with any room
 one-unknown : (T : List Row) (s t : List ℕ) (room large : ℕ) → one T s room .code ≡ UNKNOWN → one T (s ++ t) large ≡ stop UNKNOWN

@@ -7,10 +7,10 @@ use lib.ListN.{length, set, length-set}
 use lib.Seq.{sets, length-sets}
 use Rattle.digits.specs.Digits.{digits}
 use Rattle.digits.proofs.StoreLaws.{sets-out}
-use Rattle.replies.specs.Reply.{bytesOf}
-use Rattle.replies.proofs.ReplyLaws.{wrote}
-use Rattle.replies.proofs.write.Statement.{statement}
-use Rattle.replies.proofs.write.Tie as tie
+use Rattle.records.specs.Reply.{bytesOf}
+use Rattle.records.proofs.ReplyLaws.{wrote}
+use Rattle.records.proofs.write.Statement.{statement}
+use Rattle.records.proofs.write.Tie as tie
 
 returns : tie.Need-returns
 returns c = let a = c .before .before .args in sym (sets-out (bytesOf (a .r)) (a .s .now) (a .at) (c .if1 .taken))

@@ -9,14 +9,14 @@ use lib.ListN.{length, drop, length-append, length-drop}
 use lib.Seq.{drop-drop, drop-append-le}
 use Rattle.digits.specs.Digits.{word}
 use Rattle.digits.proofs.DigitLaws.{word-append}
-use Rattle.replies.specs.Reply.{bytesOf}
-use Rattle.replies.specs.Row.{Row, rowIn}
-use Rattle.stream.specs.Tally.{nothing, _⊞_}
-use Rattle.stream.specs.Run.{Out, stop, ahead, choose, one, run}
-use Rattle.stream.specs.declared.Tally.{Tally}
-use Rattle.stream.proofs.TallyLaws.{⊞-assoc, nothing-⊞}
-use Rattle.stream.proofs.RunLaws.{sound, run-go, run-stop, onward, choose-elim}
-use Rattle.stream.proofs.StepLaws.{choose-whole}
+use Rattle.records.specs.Reply.{bytesOf}
+use Rattle.records.specs.Row.{Row, rowIn}
+use Rattle.records.specs.Tally.{nothing, _⊞_}
+use Rattle.records.specs.Run.{Out, stop, ahead, choose, one, run}
+use Rattle.records.specs.declared.Tally.{Tally}
+use Rattle.records.proofs.TallyLaws.{⊞-assoc, nothing-⊞}
+use Rattle.records.proofs.RunLaws.{sound, run-go, run-stop, onward, choose-elim}
+use Rattle.records.proofs.StepLaws.{choose-whole}
 
 pub ahead-assoc : (a b c : Out) → ahead (ahead a b) c ≡ ahead a (ahead b c)
 ahead-assoc a b c = λ i. record { code = c .code; tally = ⊞-assoc (a .tally) (b .tally) (c .tally) i; bytes = append-assoc (a .bytes) (b .bytes) (c .bytes) i }

@@ -6,14 +6,14 @@ use native.Mathlib.Omega.{arith}
 use lib.ListN.{length, take, drop, length-drop}
 use lib.Seq.{sets, sets-eq, length-sets, drop-drop, take-at, take-all}
 use Rattle.digits.proofs.StoreLaws.{sets-append}
-use Rattle.replies.specs.Row.{Row}
-use Rattle.stream.specs.Tally.{nothing, _⊞_}
-use Rattle.stream.specs.Run.{Out, ahead, one, run}
-use Rattle.stream.specs.Post.{Did}
-use Rattle.stream.specs.declared.Report.{Report}
-use Rattle.stream.specs.declared.Tally.{Tally}
-use Rattle.stream.proofs.TallyLaws.{⊞-assoc, nothing-⊞, ⊞-nothing}
-use Rattle.stream.proofs.RunLaws.{sound, run-stop, run-go, onward, run-within}
+use Rattle.records.specs.Row.{Row}
+use Rattle.records.specs.Tally.{nothing, _⊞_}
+use Rattle.records.specs.Run.{Out, ahead, one, run}
+use Rattle.records.specs.Did.{Did}
+use Rattle.records.specs.declared.Report.{Report}
+use Rattle.records.specs.declared.Tally.{Tally}
+use Rattle.records.proofs.TallyLaws.{⊞-assoc, nothing-⊞, ⊞-nothing}
+use Rattle.records.proofs.RunLaws.{sound, run-stop, run-go, onward, run-within}
 
 -- What a loop keeps: what is left to do behind the tally t gives what is to be done in all.
 pub record SoFar (all rest : Out) (t : Tally) (first a : List ℕ) : Type 0 where

@@ -1,6 +1,6 @@
 -- What a run counts: records answered, bytes read, bytes written.
 use Prim.Native.Nat.{_+_}
-use Rattle.stream.specs.declared.Tally.{Tally}
+use Rattle.records.specs.declared.Tally.{Tally}
 
 abbrev pub nothing : Tally
 nothing = record { records = 0; read = 0; written = 0 }

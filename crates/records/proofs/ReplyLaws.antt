@@ -9,8 +9,8 @@ use lib.Seq.{sets, drop-at}
 use Rattle.digits.specs.Digits.{word, digits}
 use Rattle.digits.proofs.DigitLaws.{length-digits, word-digits}
 use Rattle.digits.proofs.StoreLaws.{sets-append}
-use Rattle.replies.specs.Reply.{bytesOf}
-use Rattle.replies.specs.declared.Reply.{Reply}
+use Rattle.records.specs.Reply.{bytesOf}
+use Rattle.records.specs.declared.Reply.{Reply}
 
 pub length-bytes : (r : Reply) → length (bytesOf r) ≡ 1 + r .width + r .more
 unfolding bytesOf

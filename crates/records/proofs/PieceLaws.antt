@@ -5,11 +5,11 @@ use mathlib.Core.List.{List, [], _∷_, _++_, append-assoc, append-nil}
 use Prim.Native.Nat.{ℕ, _+_, _-_, _*_, _≤_}
 use native.Mathlib.Omega.{arith}
 use lib.ListN.{length, drop, length-append, length-drop}
-use Rattle.replies.specs.Row.{Row}
-use Rattle.stream.specs.Run.{Out, ahead, run}
-use Rattle.stream.proofs.RunLaws.{run-within}
-use Rattle.stream.proofs.SplitLaws.{run-more}
-use Rattle.stream.proofs.RoomLaws.{Light, run-easy, run-same}
+use Rattle.records.specs.Row.{Row}
+use Rattle.records.specs.Run.{Out, ahead, run}
+use Rattle.records.proofs.RunLaws.{run-within}
+use Rattle.records.proofs.SplitLaws.{run-more}
+use Rattle.records.proofs.RoomLaws.{Light, run-easy, run-same}
 
 abbrev pub whole : List (List ℕ) → List ℕ
 whole [] = []

@@ -5,11 +5,11 @@ use lib.ListN.{length, drop}
 use Rattle.words.specs.Pick.{if_then_else_}
 use Rattle.words.specs.Tests.{_<?_, _=?_}
 use Rattle.digits.specs.Digits.{word}
-use Rattle.replies.specs.Reply.{bytesOf}
-use Rattle.replies.specs.Row.{Row, rowIn}
-use Rattle.stream.specs.Codes.{DONE, UNKNOWN, CUT, FULL}
-use Rattle.stream.specs.Tally.{nothing, _⊞_}
-use Rattle.stream.specs.declared.Tally.{Tally}
+use Rattle.records.specs.Reply.{bytesOf}
+use Rattle.records.specs.Row.{Row, rowIn}
+use Rattle.records.specs.Codes.{DONE, UNKNOWN, CUT, FULL}
+use Rattle.records.specs.Tally.{nothing, _⊞_}
+use Rattle.records.specs.declared.Tally.{Tally}
 
 -- What a run reports, with the bytes that it wrote.
 pub record Out : Type 0 where

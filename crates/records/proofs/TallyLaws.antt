@@ -1,8 +1,8 @@
 -- Laws of adding tallies. Whatever is counted, a run's laws use these alone. Assumes nothing.
 use mathlib.Core.Path.{_≡_, sym, ap, _∙_}
 use native.Mathlib.Nat.{add-assoc, zero-add, add-zero}
-use Rattle.stream.specs.Tally.{nothing, _⊞_}
-use Rattle.stream.specs.declared.Tally.{Tally}
+use Rattle.records.specs.Tally.{nothing, _⊞_}
+use Rattle.records.specs.declared.Tally.{Tally}
 
 pub ⊞-assoc : (a b c : Tally) → a ⊞ b ⊞ c ≡ a ⊞ (b ⊞ c)
 ⊞-assoc a b c = λ i. record {

@@ -3,7 +3,7 @@ use Prim.Native.Nat.{ℕ}
 use mathlib.Core.List.{List, [], _∷_}
 use Rattle.words.specs.Pick.{if_then_else_}
 use Rattle.words.specs.Tests.{_=?_}
-use Rattle.replies.specs.declared.Reply.{Reply}
+use Rattle.records.specs.declared.Reply.{Reply}
 
 -- a kind, how many bytes its body has (one at least), and the reply to the number that they make
 pub record Row : Type 0 where

@@ -10,12 +10,12 @@ use lib.Dec.{eqb, ltb}
 use lib.ListN.{length, drop, length-append, length-drop}
 use Rattle.words.specs.Pick.{pick}
 use Rattle.digits.specs.Digits.{word}
-use Rattle.replies.specs.Reply.{bytesOf}
-use Rattle.replies.specs.Row.{Row, rowIn}
-use Rattle.stream.specs.Codes.{DONE, UNKNOWN, CUT, FULL}
-use Rattle.stream.specs.Tally.{nothing}
-use Rattle.stream.specs.Run.{Out, stop, ahead, took, choose, one, next, steps, run}
-use Rattle.stream.specs.declared.Tally.{Tally}
+use Rattle.records.specs.Reply.{bytesOf}
+use Rattle.records.specs.Row.{Row, rowIn}
+use Rattle.records.specs.Codes.{DONE, UNKNOWN, CUT, FULL}
+use Rattle.records.specs.Tally.{nothing}
+use Rattle.records.specs.Run.{Out, stop, ahead, took, choose, one, next, steps, run}
+use Rattle.records.specs.declared.Tally.{Tally}
 
 -- what is so of both sides of a test, under its outcome, is so of its choice
 pub pick-elim : {A : Type 0} (P : A → Type 0) (t : Bool) (a b : A) → (t ≡ true → P a) → (t ≡ false → P b) → P (pick t a b)

@@ -1,0 +1,7 @@
+-- What records are and what a run of them is, over any table of kinds. Read in this order.
+pub mod Reply
+pub mod Row
+pub mod Codes
+pub mod Tally
+pub mod Run
+pub mod Did
