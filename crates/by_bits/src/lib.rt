@@ -20,6 +20,9 @@ const NAN: u64 = 0x7ff8_0000_0000_0000;
 
 const NAN_F32: u32 = 0x7fc0_0000;
 
+// the sign of log-gamma at a NaN
+const NAN_SIGN: i32 = 1;
+
 fn is_nan(x: u64) -> bool
     ensures { λ r. ⌜ r ≡ (x % 2 ^ 63 >? 0x7FF0000000000000) ⌝ }
 {
@@ -53,7 +56,7 @@ pub fn lgamma_r_bits(x: u64) -> SignedBits
     if is_nan(x) {
         return SignedBits {
             value: NAN,
-            sign: 1,
+            sign: NAN_SIGN,
         };
     }
     let t = lgamma::lgamma_r(of_bits(x));
@@ -93,7 +96,7 @@ pub fn lgammaf_r_bits(x: u32) -> SignedBitsF32
     if is_nan_f32(x) {
         return SignedBitsF32 {
             value: NAN_F32,
-            sign: 1,
+            sign: NAN_SIGN,
         };
     }
     let t = lgammaf::lgammaf_r(of_bits_f32(x));

@@ -1,4 +1,8 @@
 -- `tgamma::lanczos::s` meets its contract. Assumes nothing.
+use mathlib.Core.Path.{_≡_}
+use mathlib.Core.Bool.{true, false}
+use Rattle.words.specs.Tests.{_<·_}
+use Rattle.words.specs.F64.{8·0}
 use Rattle.tgamma.specs.Lanczos.{sS}
 use borrow.Author.Needs.{needs}
 use Rattle.tgamma.proofs.lanczos.s.Statement.{statement}
@@ -18,7 +22,10 @@ down-requires-2 c κs = search needs
 
 returns : tie.Need-returns
 unfolding sS
-returns c = rw (c .down2 .ensures, c .before .before .down .ensures) (simp (c .before .before .before .before .if1 .taken))
+returns c =
+    let s = c .before .before .before .before in
+    let t : (s .before .args .x <· 8·0) ≡ true = s .if1 .taken in
+    rw (c .down2 .ensures, c .before .before .down .ensures) (simp t)
 
 slice-aggregate-up : tie.Need-slice-aggregate-up
 slice-aggregate-up c = search needs
@@ -34,7 +41,10 @@ up-requires-2 c κs = search needs
 
 returns-2 : tie.Need-returns-2
 unfolding sS
-returns-2 c = rw (c .up2 .ensures, c .before .before .up .ensures) (simp (c .before .before .before .before .if1 .left))
+returns-2 c =
+    let s = c .before .before .before .before in
+    let t : (s .before .args .x <· 8·0) ≡ false = s .if1 .left in
+    rw (c .up2 .ensures, c .before .before .up .ensures) (simp t)
 
 pub s-spec : {M : Type 1} → statement M
 s-spec =
