@@ -9,10 +9,10 @@ ghost use Prim.Native.Nat.{_+_, _-_, _≤_, _<_, _^_};
 ghost use mathlib.Core.Path.{_≡_};
 ghost use lib.ListN.{length, drop};
 ghost use Rattle.replies.specs.Table.{table};
-ghost use Rattle.records.specs.Tally.{_⊞_};
+ghost use Rattle.records.specs.Tally.{nothing, _⊞_};
 ghost use Rattle.records.specs.Run.{one};
-ghost use Rattle.stream.specs.Batch.{batchS};
 ghost use Rattle.records.specs.Did.{Did};
+ghost use Rattle.stream.specs.Batch.{batchS};
 ghost use Rattle.stream.specs.Post.{Rest, Front};
 
 // Why a batch stopped: the requests are used up; a kind that is not in the table; an incomplete body; an answer longer than the room left.
@@ -26,7 +26,7 @@ pub const FULL: u8 = 3;
 
 // Nothing done, for the reason of a code.
 fn stopped(code: u8) -> Report
-    ensures { λ r. ⌜ r ≡ record { code = code; tally = record { records = 0; read = 0; written = 0 } } ⌝ }
+    ensures { λ r. ⌜ r ≡ record { code = code; tally = nothing } ⌝ }
 {
     Report {
         code,
