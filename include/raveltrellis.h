@@ -1,5 +1,5 @@
 /*
- * raveltrellis.h: gamma, log-gamma and the error functions, and the batch, from C and C++.
+ * raveltrellis.h: gamma, log-gamma and the error functions, the batch and the feed, from C and C++.
  *
  * The library is libraveltrellis.a as `bin/install` puts it beside this header, or
  * target/staticlib/libentries.a as `rt staticlib entries` proves and writes it, for Linux on x86-64.
@@ -8,9 +8,9 @@
  *
  * Every entry answers every bit pattern and every content of the buffers, and returns. It asks of its
  * caller what C does: a pointer with the length of what it points to, or any pointer with length 0,
- * also a null one; the buffers of a batch do not overlap; nobody else writes to the requests, or
- * reads or writes the answers or the report, before the call returns; and the processor's float
- * control is as a program finds it (rounding to nearest, subnormal numbers kept).
+ * also a null one; the buffers of a call do not overlap; nobody else writes to the requests or the
+ * piece, or reads or writes the answers, the report or the feed, before the call returns; and the
+ * processor's float control is as a program finds it (rounding to nearest, subnormal numbers kept).
  *
  * The entries are numbers and bytes, and they are what is proved. The functions that are written out
  * here turn C's types into them, and do nothing else.
@@ -25,7 +25,7 @@
 /* The version of this interface. What is added raises the second number, what changes or goes the
  * first. */
 #define RVT_VERSION_MAJOR 1
-#define RVT_VERSION_MINOR 0
+#define RVT_VERSION_MINOR 1
 #define RVT_VERSION_PATCH 0
 #define RVT_VERSION (RVT_VERSION_MAJOR * 10000 + RVT_VERSION_MINOR * 100 + RVT_VERSION_PATCH)
 
@@ -83,19 +83,21 @@ enum rvt_kind {
     RVT_ERFCF = 20
 };
 
-/* The bytes of the longest request, of the longest answer and of a report. A buffer with room for the
- * longest answer to every request is never too short. */
+/* The bytes of the longest request, of the longest answer, of a report and of a feed. A buffer with room
+ * for the longest answer to every request is never too short. */
 #define RVT_LONGEST_REQUEST 9
 #define RVT_LONGEST_ANSWER 10
 #define RVT_REPORT_BYTES 24
+#define RVT_FEED_BYTES 32
 
-/* The codes that a batch stops with. */
+/* The codes that a call stops with. */
 enum rvt_stop {
-    RVT_DONE = 0,          /* the requests are used up */
-    RVT_UNKNOWN = 1,       /* the kind at the front is not in the table */
-    RVT_CUT = 2,           /* the kind is known, and its body is incomplete */
-    RVT_FULL = 3,          /* the record is whole, and its answer is longer than the room left */
-    RVT_REPORT_LENGTH = 10 /* the report has another length than RVT_REPORT_BYTES: nothing is touched */
+    RVT_DONE = 0,           /* the requests, or the piece, are used up */
+    RVT_UNKNOWN = 1,        /* the kind at the front is not in the table */
+    RVT_CUT = 2,            /* the kind is known, and its body is incomplete */
+    RVT_FULL = 3,           /* the record is whole, and its answer is longer than the room left */
+    RVT_REPORT_LENGTH = 10, /* the report has another length than RVT_REPORT_BYTES: nothing is touched */
+    RVT_FEED_LENGTH = 10    /* the feed has another length than RVT_FEED_BYTES: nothing is touched */
 };
 
 /* What a batch did: the records answered, the bytes read and the bytes written. */
@@ -120,6 +122,34 @@ uint64_t rvt_batch_records(const uint8_t *requests, size_t requests_length, uint
 uint64_t rvt_batch_read(const uint8_t *requests, size_t requests_length, uint8_t *answers, size_t answers_length);
 uint64_t rvt_batch_written(const uint8_t *requests, size_t requests_length, uint8_t *answers, size_t answers_length);
 
+/* ---- The feed. */
+
+/*
+ * A feed answers a stream that comes in pieces of any size, each record as soon as its last byte is
+ * there. It is RVT_FEED_BYTES bytes that the host keeps from call to call, all zero to begin with, and
+ * holds at most the start of one record: 16 bytes of state, and then, of the last call, how many bytes
+ * of the piece it took and how many it wrote, eight bytes each, the lowest byte first. These two are not
+ * looked at. A state that no call has left is answered too: as one that has stopped, where it holds no
+ * start of a record.
+ *
+ * Take a piece: the answers stand at the front of the answer buffer, and the bytes behind them stay as
+ * they were. The result is the code.
+ *   RVT_DONE     the piece is taken whole
+ *   RVT_UNKNOWN  the next byte is no kind. It is not taken, and the feed has stopped: from now on it takes
+ *                nothing, writes nothing, and gives this code to every call
+ *   RVT_FULL     the next byte is the last of a record, whose answer is longer than the room left. It is
+ *                not taken: send the answers, and offer the rest of the piece again
+ * With room for RVT_LONGEST_ANSWER a call takes a byte at least, or stops on an unknown kind.
+ */
+uint64_t rvt_feed_push(uint8_t *feed, size_t feed_length, const uint8_t *piece, size_t piece_length,
+                       uint8_t *answers, size_t answers_length);
+
+/*
+ * Close the feed, where nothing more is to come: RVT_DONE, or RVT_CUT where a record has begun, and the
+ * feed is empty again, all of its bytes zero; RVT_UNKNOWN where it has stopped, and it stays so.
+ */
+uint64_t rvt_feed_close(uint8_t *feed, size_t feed_length);
+
 /* ---- The same on C's own types. */
 
 /* The number that eight bytes make, the lowest first, on a host of any byte order. Written out, since
@@ -143,6 +173,38 @@ static inline uint64_t rvt_batch_run(const uint8_t *requests, size_t requests_le
     report->records = rvt_number(bytes);
     report->read = rvt_number(bytes + 8);
     report->written = rvt_number(bytes + 16);
+    return code;
+}
+
+/* A feed as a struct; all zero is an empty one. */
+struct rvt_feed {
+    uint8_t state[16];
+    uint64_t taken, written;
+};
+
+/* The feed's bytes, once a call has left them. */
+static inline void rvt_feed_of_bytes(struct rvt_feed *feed, const uint8_t *bytes) {
+    memcpy(feed->state, bytes, sizeof feed->state);
+    feed->taken = rvt_number(bytes + 16);
+    feed->written = rvt_number(bytes + 24);
+}
+
+/* Takes a piece, as rvt_feed_push does. */
+static inline uint64_t rvt_feed_take(struct rvt_feed *feed, const uint8_t *piece, size_t piece_length,
+                                     uint8_t *answers, size_t answers_length) {
+    uint8_t bytes[RVT_FEED_BYTES] = {0};
+    memcpy(bytes, feed->state, sizeof feed->state);
+    uint64_t code = rvt_feed_push(bytes, sizeof bytes, piece, piece_length, answers, answers_length);
+    rvt_feed_of_bytes(feed, bytes);
+    return code;
+}
+
+/* Closes the feed, as rvt_feed_close does. */
+static inline uint64_t rvt_feed_end(struct rvt_feed *feed) {
+    uint8_t bytes[RVT_FEED_BYTES] = {0};
+    memcpy(bytes, feed->state, sizeof feed->state);
+    uint64_t code = rvt_feed_close(bytes, sizeof bytes);
+    rvt_feed_of_bytes(feed, bytes);
     return code;
 }
 
