@@ -7,6 +7,8 @@ use contract.Lifetimes.{Lfts}
 use denote.Ref.{now}
 use Rattle.records.specs.Run.{Out}
 use Rattle.entries.specs.Post.{Reported}
+use Rattle.entries.proofs.feed_bytes.rvt_feed_push.Reads as push
+use Rattle.entries.proofs.feed_bytes.rvt_feed_close.Reads as close
 use Rattle.entries.proofs.report.rvt_batch.Reads as batch
 use Rattle.entries.proofs.rvt_tgamma.Reads as tgamma
 use Rattle.entries.proofs.rvt_lgamma_r_value.Reads as value
@@ -69,3 +71,12 @@ written-determined κs a r r' s s' p q = same _ _ r r' _ (now (s .1 .0)) (now (s
 pub batch-determined : (κs : Lfts 3) (a : _) (r r' : ℕ) (s s' : _) → batch.Post κs a r s → batch.Post κs a r' s' →
     (r ≡ r') × ((now (s .1 .0) ≡ now (s' .1 .0)) × (now (s .1 .1 .0) ≡ now (s' .1 .1 .0)))
 batch-determined κs a r r' s s' p q = (p .code ∙ sym (q .code), (p .answers ∙ sym (q .answers), p .report ∙ sym (q .report)))
+
+-- the code, and every byte of the feed and of the answers
+pub push-determined : (κs : Lfts 3) (a : _) (r r' : ℕ) (s s' : _) → push.Post κs a r s → push.Post κs a r' s' →
+    (r ≡ r') × ((now (s .0) ≡ now (s' .0)) × (now (s .1 .1 .0) ≡ now (s' .1 .1 .0)))
+push-determined κs a r r' s s' p q = (p .code ∙ sym (q .code), (p .feed ∙ sym (q .feed), p .answers ∙ sym (q .answers)))
+
+-- the code, and every byte of the feed
+pub close-determined : (κs : Lfts 1) (a : _) (r r' : ℕ) (s s' : _) → close.Post κs a r s → close.Post κs a r' s' → (r ≡ r') × (now (s .0) ≡ now (s' .0))
+close-determined κs a r r' s s' p q = (p .code ∙ sym (q .code), p .feed ∙ sym (q .feed))

@@ -1,3 +1,4 @@
--- What the batch entries promise.
+-- What the entries of the batch and of the feed promise.
 pub mod Post
 pub mod Batch
+pub mod Feed
