@@ -120,24 +120,27 @@ pub fn compare(seed: u64, count: u64) -> u8 {
     tally.finish()
 }
 
-/// Compares a function at the patterns of `total` places, as many parts at a time as the machine has
-/// processors.
+/// Compares a function at the patterns of `total` places.
 fn by_parts(function: &Function, total: u64, pattern: impl Fn(u64) -> u64 + Sync, sum: &mut Tally) {
-    let parts = thread::available_parallelism().map_or(1, NonZeroUsize::get) as u64;
     let pattern = &pattern;
+    for part in in_parts(total, |from, upto| part_of(function, from, upto, pattern)) {
+        sum.compared += part.compared;
+        sum.differ += part.differ;
+    }
+}
+
+/// Runs `total` places in as many parts at a time as the machine has processors, and answers what each
+/// part gives.
+pub fn in_parts<T: Send>(total: u64, part: impl Fn(u64, u64) -> T + Sync) -> Vec<T> {
+    let parts = thread::available_parallelism().map_or(1, NonZeroUsize::get) as u64;
+    let part = &part;
     thread::scope(|scope| {
         let started: Vec<_> = (0..parts)
-            .map(|part| {
-                let (from, upto) = (total * part / parts, total * (part + 1) / parts);
-                scope.spawn(move || part_of(function, from, upto, pattern))
-            })
+            .map(|n| scope.spawn(move || part(total * n / parts, total * (n + 1) / parts)))
             .collect();
-        for part in started {
-            let part = part.join().expect("a part ends");
-            sum.compared += part.compared;
-            sum.differ += part.differ;
-        }
-    });
+        let ended = started.into_iter().map(|part| part.join());
+        ended.map(|part| part.expect("a part ends")).collect()
+    })
 }
 
 fn part_of(function: &Function, from: u64, upto: u64, pattern: impl Fn(u64) -> u64) -> Tally {

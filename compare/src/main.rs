@@ -1,9 +1,13 @@
 //! Compares the port with the Rust, bit for bit: the leaves by the program `leaves`, the request
-//! stream by the program `answers`.
+//! stream by the program `answers`, the C entries and their feed by a call.
 
 mod constants;
 mod cuts;
 mod exhaustive;
+#[cfg(any(feature = "linked", test))]
+mod feed;
+#[cfg(feature = "linked")]
+mod feeding;
 mod kinds;
 mod leaves;
 #[cfg(feature = "linked")]
@@ -36,6 +40,9 @@ const USAGE: &str = "usage:
   compare linked SEED COUNT          the C entries, linked: the f32 functions at all 2^32 patterns, the f64
                                      ones at COUNT random patterns beside the systematic ones (a build with
                                      the feature linked)
+  compare feed SEED COUNT            the feed of the C entries, linked: COUNT streams of mixed kinds, damaged
+                                     ones among them, cut at random, as many made-up states, and feeds of
+                                     other lengths, with a model of the feed (such a build)
   compare stream SEED COUNT [FILE]   COUNT requests of mixed kinds beside the systematic ones, and
                                      damaged streams
   compare stored                     the lists and streams that the gate replays, answer by answer
@@ -72,6 +79,8 @@ fn run(words: &[&str]) -> io::Result<u8> {
         }
         #[cfg(feature = "linked")]
         ["linked", seed, count] => Ok(linked::compare(number(seed)?, number(count)?)),
+        #[cfg(feature = "linked")]
+        ["feed", seed, count] => Ok(feeding::compare(number(seed)?, number(count)?)),
         ["exhaustive-f32", file @ ..] => compare_all_singles(&program("leaves", file)?),
         ["stream", seed, count, file @ ..] => {
             compare_streams(number(seed)?, number(count)?, &program("answers", file)?)

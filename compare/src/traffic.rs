@@ -69,7 +69,7 @@ impl Streams {
 }
 
 /// A byte that is no kind's. A kind is below 128.
-fn unknown_kind(random: &mut Random) -> u8 {
+pub fn unknown_kind(random: &mut Random) -> u8 {
     let byte = random.next() as u8;
     match kind_of(byte) {
         Some(_) => byte + 128,
