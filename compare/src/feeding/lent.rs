@@ -65,6 +65,25 @@ impl Lent {
     fn is_untouched(&self) -> bool {
         self.has_become(&[])
     }
+
+    /// What it was and what it is, and whether the noise round it has changed.
+    fn describe(&self) -> String {
+        let end = self.now.len() - GUARD;
+        let mut text = hex(&self.before[GUARD..end]);
+        if self.now[GUARD..end] != self.before[GUARD..end] {
+            text += &format!(" -> {}", hex(self.content()));
+        }
+        if self.now[..GUARD] != self.before[..GUARD] || self.now[end..] != self.before[end..] {
+            text += ", written beyond";
+        }
+        text
+    }
+}
+
+/// Bytes in a row, two digits each.
+pub fn hex(bytes: &[u8]) -> String {
+    let digits = bytes.iter().map(|byte| format!("{byte:02x}"));
+    format!("[{}]", digits.collect::<String>())
 }
 
 /// The buffers of a call, and the port's calls on them.
@@ -109,13 +128,13 @@ impl Buffers {
         self.feed.has_become(feed) && self.piece.is_untouched() && self.answers.has_become(answers)
     }
 
-    /// All that a call was given and what it left, each with the noise round it.
+    /// All that a call was given, and what it has changed.
     pub fn describe(&self) -> String {
-        let of = |name, lent: &Lent| match lent.is_untouched() {
-            true => format!("{name} {:02x?} untouched", lent.content()),
-            false => format!("{name} {:02x?}, then {:02x?}", lent.before, lent.now),
-        };
-        let (feed, piece) = (of("feed", &self.feed), of("piece", &self.piece));
-        format!("{feed}; {piece}; {}", of("answers", &self.answers))
+        format!(
+            "feed {}; piece {}; answers {}",
+            self.feed.describe(),
+            self.piece.describe(),
+            self.answers.describe()
+        )
     }
 }

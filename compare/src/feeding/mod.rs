@@ -11,7 +11,7 @@ use crate::random::Random;
 use crate::stream::{batch, records};
 use crate::tally::{Progress, Tally};
 use crate::traffic::Streams;
-use lent::{noise, Buffers};
+use lent::{hex, noise, Buffers};
 use made::{below, piece_length, requests, Rooms};
 
 /// The code that says that a feed has another length.
@@ -98,10 +98,9 @@ impl Part {
         let bytes = both.model.bytes(want.taken, want.answers.len());
         let is_same = buffers.have_become(&bytes, &want.answers);
         let is_same = self.count(code, want.code, is_same, || {
-            format!(
-                "push with room {room}: {}; wanted feed {bytes:02x?}, {want:02x?}",
-                buffers.describe()
-            )
+            let (feed, answers) = (hex(&bytes), hex(&want.answers));
+            let left = buffers.describe();
+            format!("push with room {room}: {left}; model: feed {feed}; answers {answers}")
         });
         both.keep(&buffers);
         is_same.then_some(want)
@@ -116,7 +115,7 @@ impl Part {
         let bytes = both.model.bytes(0, 0);
         let is_same = buffers.have_become(&bytes, &[]);
         let is_same = self.count(code, want, is_same, || {
-            format!("close: {}; wanted feed {bytes:02x?}", buffers.describe())
+            format!("close: {}; model: feed {}", buffers.describe(), hex(&bytes))
         });
         both.keep(&buffers);
         is_same.then_some(want)
@@ -143,8 +142,11 @@ impl Part {
         };
         let is_same = code == u64::from(report.code) && answers == want && taken == all;
         self.tally.count(is_same, || {
+            let (stream, answers, want) = (hex(&stream), hex(&answers), hex(&want));
             let rust = report.code;
-            format!("stream {stream:02x?}: pieces {code}, {taken} taken, {answers:02x?}; batch {rust}, {want:02x?}")
+            format!(
+                "stream {stream}: pieces {code}, {taken} taken, {answers}; batch {rust}, {want}"
+            )
         });
         Some(())
     }
@@ -184,7 +186,7 @@ impl Part {
     fn goes_on(&mut self, piece: &[u8], pushed: &Pushed) -> Option<()> {
         let goes_on = piece.is_empty() || pushed.taken > 0 || pushed.code == 1;
         self.tally.count(goes_on, || {
-            format!("nothing of {piece:02x?} is taken: {pushed:02x?}")
+            format!("nothing of {} is taken, code {}", hex(piece), pushed.code)
         });
         goes_on.then_some(())
     }
