@@ -9,6 +9,10 @@ use crate::tally::{Progress, Tally};
 use std::num::NonZeroUsize;
 use std::thread;
 
+/// The sum of the archive that is linked. Cargo does not look at the archive itself, and builds this anew
+/// where the sum is another.
+pub const ARCHIVE: &str = env!("ARCHIVE_SUM");
+
 #[link(name = "raveltrellis", kind = "static")]
 extern "C" {
     fn rvt_tgamma(x: u64) -> u64;
@@ -101,6 +105,7 @@ pub fn compare(seed: u64, count: u64) -> u8 {
     let doubles = Patterns::new(Width::Double);
     let systematic = doubles.systematic.len() as u64;
     let mut tally = Tally::default();
+    println!("archive {ARCHIVE}");
     for (number, function) in (0..).zip(&FUNCTIONS) {
         let before = tally.compared;
         match function.width {

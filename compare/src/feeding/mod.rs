@@ -6,7 +6,7 @@ mod lent;
 mod made;
 
 use crate::feed::{Feed, Pushed, FEED, STATE};
-use crate::linked::in_parts;
+use crate::linked::{in_parts, ARCHIVE};
 use crate::random::Random;
 use crate::stream::{batch, records};
 use crate::tally::{Progress, Tally};
@@ -278,6 +278,7 @@ impl Part {
 pub fn compare(seed: u64, count: u64) -> u8 {
     let streams = Streams::new();
     let mut sum = Part::default();
+    println!("archive {ARCHIVE}");
     for part in in_parts(count, |from, upto| part_of(seed, from, upto, &streams)) {
         sum.add(part);
     }
