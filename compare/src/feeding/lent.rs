@@ -18,6 +18,9 @@ extern "C" {
 /// The bytes of noise on each side of what is lent.
 const GUARD: usize = 16;
 
+/// The bytes of a buffer that are printed.
+const SHOWN: usize = 120;
+
 pub fn noise(random: &mut Random, length: usize) -> Vec<u8> {
     let words = std::iter::repeat_with(|| random.next().to_le_bytes());
     words.flatten().take(length).collect()
@@ -80,10 +83,14 @@ impl Lent {
     }
 }
 
-/// Bytes in a row, two digits each.
+/// Bytes in a row, two digits each; of many only the first, and how many they are.
 pub fn hex(bytes: &[u8]) -> String {
-    let digits = bytes.iter().map(|byte| format!("{byte:02x}"));
-    format!("[{}]", digits.collect::<String>())
+    let digits = bytes.iter().take(SHOWN).map(|byte| format!("{byte:02x}"));
+    let digits = digits.collect::<String>();
+    match bytes.len() <= SHOWN {
+        true => format!("[{digits}]"),
+        false => format!("[{digits}.. {} bytes]", bytes.len()),
+    }
 }
 
 /// The buffers of a call, and the port's calls on them.

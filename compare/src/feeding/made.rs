@@ -16,17 +16,17 @@ pub enum Rooms {
 }
 
 impl Rooms {
-    pub fn next(self, random: &mut Random) -> usize {
-        let longest = longest_answer() as u64;
-        let room = match (self, random.below(4)) {
-            (Rooms::Small, 0) => 0,
-            (Rooms::Small, 1) => random.below(longest),
-            (Rooms::Small, _) => random.below(2 * longest + 4),
-            (Rooms::Ample, 0..=1) => longest,
-            (Rooms::Ample, 2) => longest + random.below(longest + 2),
-            (Rooms::Ample, _) => longest + random.below(100),
-        };
-        room as usize
+    /// The room of the next call, at times for most of a stream of so many bytes.
+    pub fn next(self, random: &mut Random, length: usize) -> usize {
+        let longest = longest_answer();
+        match (self, random.below(8)) {
+            (Rooms::Small, 0..=1) => 0,
+            (Rooms::Small, 2..=3) => below(random, longest),
+            (Rooms::Small, _) => below(random, 2 * longest + 4),
+            (Rooms::Ample, 0..=3) => longest,
+            (Rooms::Ample, 4..=5) => longest + below(random, longest + 2),
+            (Rooms::Ample, _) => longest + below(random, 2 * length + 1),
+        }
     }
 }
 
@@ -39,14 +39,21 @@ pub fn below(random: &mut Random, n: usize) -> usize {
     random.below(n as u64) as usize
 }
 
-/// A stream of a few requests, damaged in half of the cases: an unknown kind between two records, bytes
+/// How many requests a stream has: up to 8, some hundreds at times.
+pub fn records(random: &mut Random) -> u64 {
+    match random.below(100) {
+        0 => random.below(400),
+        _ => random.below(9),
+    }
+}
+
+/// A stream of so many requests, damaged in half of the cases: an unknown kind between two records, bytes
 /// cut off, taken out, swapped or inserted, a bit flipped, or noise.
-pub fn requests(streams: &Streams, random: &mut Random) -> Vec<u8> {
-    let front = random.below(5);
+pub fn requests(streams: &Streams, count: u64, random: &mut Random) -> Vec<u8> {
+    let front = random.below(count + 1);
     let mut stream = streams.random(random, front);
     let boundary = stream.len();
-    let back = random.below(5);
-    stream.extend(streams.random(random, back));
+    stream.extend(streams.random(random, count - front));
     let at = below(random, stream.len() + 1);
     match random.below(14) {
         0 => stream.insert(boundary, unknown_kind(random)),

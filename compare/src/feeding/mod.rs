@@ -8,7 +8,7 @@ mod made;
 use crate::feed::{Feed, Pushed, FEED, STATE};
 use crate::linked::{in_parts, ARCHIVE};
 use crate::random::Random;
-use crate::stream::{batch, records};
+use crate::stream;
 use crate::tally::{Progress, Tally};
 use crate::traffic::Streams;
 use lent::{hex, noise, Buffers};
@@ -19,6 +19,10 @@ const LENGTH: u64 = 10;
 
 /// The longest feed of another length that is tried.
 const LONGEST_FEED: u64 = 64;
+
+/// The requests of a long stream, and the places that have one of them.
+const LONG: u64 = 20_000;
+const PLACES: u64 = 50_000;
 
 /// The port's feed and the model's, side by side.
 #[derive(Clone)]
@@ -121,10 +125,11 @@ impl Part {
         is_same.then_some(want)
     }
 
-    /// A stream, cut at random, and then closed. What the pieces gave is held to the batch over the whole.
+    /// A stream, cut at random, and then closed.
     fn stream(&mut self, streams: &Streams, random: &mut Random) -> Option<()> {
         self.streams += 1;
-        let stream = requests(streams, random);
+        let count = made::records(random);
+        let stream = requests(streams, count, random);
         let rooms = [Rooms::Small, Rooms::Ample][below(random, 2)];
         let mut both = Both::of([0; FEED]);
         let (taken, answers) = self.pieces(&mut both, &stream, rooms, random)?;
@@ -132,23 +137,38 @@ impl Part {
             self.stays_stopped(&mut both, streams, random)?;
         }
         let code = self.close(&mut both, random)?;
+        self.is_the_batch(&stream, code, taken, &answers);
+        Some(())
+    }
 
-        let room = records(&stream).map(|(kind, _)| kind.answer_length());
+    /// A stream in one piece with room for all, so long that what is taken and written has three bytes.
+    fn long_stream(&mut self, streams: &Streams, random: &mut Random) -> Option<()> {
+        self.streams += 1;
+        let stream = streams.random(random, LONG);
+        let mut both = Both::of([0; FEED]);
+        let pushed = self.push(&mut both, &stream, 2 * stream.len(), random)?;
+        let code = self.close(&mut both, random)?;
+        self.is_the_batch(&stream, code, pushed.taken, &pushed.answers);
+        Some(())
+    }
+
+    /// Holds what the pieces of a stream gave to the Rust's batch over the whole, with room for all.
+    fn is_the_batch(&mut self, stream: &[u8], code: u64, taken: usize, answers: &[u8]) {
+        let room = stream::records(stream).map(|(kind, _)| kind.answer_length());
         let mut want = vec![0; room.sum()];
-        let report = batch(&stream, &mut want);
+        let report = stream::batch(stream, &mut want);
         let all = match report.code {
             1 => report.read,
             _ => stream.len(),
         };
-        let is_same = code == u64::from(report.code) && answers == want && taken == all;
+        let is_same = code == u64::from(report.code) && taken == all && answers == want;
         self.tally.count(is_same, || {
-            let (stream, answers, want) = (hex(&stream), hex(&answers), hex(&want));
+            let (stream, answers, want) = (hex(stream), hex(answers), hex(&want));
             let rust = report.code;
             format!(
                 "stream {stream}: pieces {code}, {taken} taken, {answers}; batch {rust}, {want}"
             )
         });
-        Some(())
     }
 
     /// The pieces of a stream, the untaken rest of each offered again, until all is taken or the feed has
@@ -165,7 +185,8 @@ impl Part {
         loop {
             let rest = &stream[taken..];
             let piece = &rest[..piece_length(random, longest, untaken, rest.len())];
-            let pushed = self.push(both, piece, rooms.next(random), random)?;
+            let room = rooms.next(random, stream.len());
+            let pushed = self.push(both, piece, room, random)?;
             if rooms == Rooms::Ample {
                 self.goes_on(piece, &pushed)?;
             }
@@ -204,7 +225,8 @@ impl Part {
                 1 => streams.random(random, 2),
                 _ => noise(random, 12),
             };
-            self.push(both, &piece, Rooms::Small.next(random), random)?;
+            let room = Rooms::Small.next(random, piece.len());
+            self.push(both, &piece, room, random)?;
             if random.below(3) == 0 {
                 self.close(both, random)?;
             }
@@ -218,7 +240,7 @@ impl Part {
         let mut both = Both::of(made::made_up(random));
         let length = below(random, 10);
         let mut stream = noise(random, length);
-        stream.extend(requests(streams, random));
+        stream.extend(requests(streams, random.below(9), random));
         let mut taken = 0;
         for _ in 0..1 + random.below(3) {
             if random.below(4) == 0 {
@@ -226,9 +248,8 @@ impl Part {
             }
             let rest = &stream[taken..];
             let piece = &rest[..piece_length(random, 12, 0, rest.len())];
-            taken += self
-                .push(&mut both, piece, Rooms::Small.next(random), random)?
-                .taken;
+            let room = Rooms::Small.next(random, piece.len());
+            taken += self.push(&mut both, piece, room, random)?.taken;
         }
         self.close(&mut both, random).map(|_| ())
     }
@@ -238,8 +259,9 @@ impl Part {
         let mut feed = made::made_up(random).to_vec();
         feed.extend(noise(random, length));
         feed.truncate(length);
-        let piece = requests(streams, random);
-        let mut buffers = Buffers::new(&feed, &piece, Rooms::Small.next(random), random);
+        let piece = requests(streams, random.below(9), random);
+        let room = Rooms::Small.next(random, piece.len());
+        let mut buffers = Buffers::new(&feed, &piece, room, random);
         for call in [Buffers::push, Buffers::close] {
             self.other_lengths += 1;
             let code = call(&mut buffers);
@@ -250,11 +272,15 @@ impl Part {
         }
     }
 
-    /// What is compared at one place: a stream, a made-up state and a feed of another length.
+    /// What is compared at one place: a stream, a made-up state and a feed of another length; and now and
+    /// then a long stream.
     fn place(&mut self, place: u64, streams: &Streams, random: &mut Random) {
         // a difference is counted where it is found, and the rest of its stream says nothing more
         let _ = self.stream(streams, random);
         let _ = self.made_up(streams, random);
+        if place % PLACES == 0 {
+            let _ = self.long_stream(streams, random);
+        }
         let length = (place % (LONGEST_FEED + 1)) as usize;
         if length != FEED {
             self.other_length(length, streams, random);
@@ -274,7 +300,7 @@ impl Part {
     }
 }
 
-/// `count` streams, with as many made-up states and feeds of another length.
+/// `count` streams and some long ones, with as many made-up states and feeds of another length.
 pub fn compare(seed: u64, count: u64) -> u8 {
     let streams = Streams::new();
     let mut sum = Part::default();
