@@ -4,29 +4,10 @@
  * bytes, and batches once more in blocks of the very length, where a memory checker sees a step
  * outside. The last line is 'N checks, M failed'.
  */
-#include <stdio.h>
-#include <stdlib.h>
-#include <string.h>
-
-#include "plan.h"
+#include "check.h"
 #include "raveltrellis.h"
 
-enum { GUARD = 64, BYTES = 256, LONGEST_REPORT = 2 * RVT_REPORT_BYTES };
-
-static unsigned long checks, failures;
-
-static void check(int good, const char *what, size_t at) {
-    checks++;
-    if (good)
-        return;
-    failures++;
-    printf("failed: %s (at %zu)\n", what, at);
-}
-
-static void give_up(const char *what, const char *why) {
-    fprintf(stderr, "test: %s: %s\n", what, why);
-    exit(2);
-}
+enum { LONGEST_REPORT = 2 * RVT_REPORT_BYTES };
 
 /* ---- calls between guard bytes */
 
@@ -46,16 +27,6 @@ static void ask(const uint8_t *bytes, size_t count) {
     memset(requests_block, 0xA5, count + 2 * GUARD);
     memcpy(requests, bytes, count);
     memcpy(requests_copy, requests_block, count + 2 * GUARD);
-}
-
-static int all(const uint8_t *bytes, size_t count, uint8_t fill) {
-    return count == 0 || (bytes[0] == fill && memcmp(bytes, bytes + 1, count - 1) == 0);
-}
-
-/* A block of `size` bytes between guards begins with the `count` bytes of `front`, and the rest is as it was lent. */
-static int holds(const uint8_t *block, size_t size, uint8_t fill, const uint8_t *front, size_t count) {
-    return all(block, GUARD, fill) && memcmp(block + GUARD, front, count) == 0 &&
-           all(block + GUARD + count, size - count + GUARD, fill);
 }
 
 /* The answers and the report after a call: so many bytes of either are new, and the requests stand. */
@@ -93,18 +64,9 @@ static void call(const struct plan *p, size_t room, size_t size, uint8_t fill) {
     look(p, room, size, fill, told, good ? d.number[WRITTEN] : 0, good ? sizeof told : 0);
 }
 
-static uint8_t *block(size_t count) {
-    uint8_t *bytes = malloc(count);
-    if (bytes == NULL && count > 0)
-        give_up("a block", "no memory");
-    return bytes;
-}
-
 /* The same in blocks of the very length. */
 static void call_exactly(const struct plan *p, size_t room) {
-    uint8_t *in = block(length), *out = block(room), *told = block(RVT_REPORT_BYTES);
-    if (length > 0)
-        memcpy(in, requests, length);
+    uint8_t *in = block(requests, length), *out = block(NULL, room), *told = block(NULL, RVT_REPORT_BYTES);
     check(rvt_batch(in, length, out, room, told, RVT_REPORT_BYTES) == at_room(p, room).number[CODE],
           "code in blocks of the very length", room);
     free(in);
@@ -132,46 +94,11 @@ static void quick_batch(const struct plan *p, size_t room, size_t turn) {
 
 /* ---- the stored streams */
 
-static size_t load(const char *name, uint8_t *to) {
-    FILE *file = fopen(name, "rb");
-    if (file == NULL) {
-        perror(name);
-        exit(2);
-    }
-    size_t count = fread(to, 1, MOST, file);
-    if (ferror(file))
-        give_up(name, "cannot be read");
-    if (count == MOST && fgetc(file) != EOF)
-        give_up(name, "longer than the test takes");
-    fclose(file);
-    return count;
-}
-
-/* The plan, and so each function's entry, has the stored answers; they close with byte 255 and the stop code. */
-static void stored(const struct plan *p, const uint8_t *told, size_t count) {
-    if (count < 2)
-        give_up("the answers", "no closing bytes");
-    check(p->written[p->records] == count - 2, "as many bytes as stored", count);
-    check(memcmp(p->answers, told, count - 2) == 0, "the stored answers", count);
-    check(told[count - 2] == 255 && told[count - 1] == p->code, "the stored stop code", count);
-}
-
-/* One record of each kind, as the streams have them. */
-struct sample {
-    uint8_t bytes[RVT_LONGEST_REQUEST * KIND_COUNT];
-    size_t count, kinds;
-    int has[BYTES];
-};
-
-static void take_samples(struct sample *s, const struct plan *p) {
-    for (size_t n = 0; n < p->records; n++) {
-        size_t at = p->read[n], size = p->read[n + 1] - at;
-        if (s->has[requests[at]]++ > 0)
-            continue;
-        memcpy(s->bytes + s->count, requests + at, size);
-        s->count += size;
-        s->kinds++;
-    }
+/* The plan, and so each function's entry, has the stored answers and the stored stop code. */
+static void as_stored(const struct plan *p, const struct stored *t) {
+    check(p->written[p->records] == t->written, "as many bytes as stored", t->written);
+    check(memcmp(p->answers, t->answers, t->written) == 0, "the stored answers", t->written);
+    check(p->code == t->code, "the stored stop code", t->written);
 }
 
 /* Every room from none to more than enough, byte by byte. */
@@ -184,12 +111,11 @@ static void every_room(const struct plan *p) {
             quick_batch(p, room, room);
 }
 
-static void stream(const char *requests_name, const char *answers_name, struct sample *s) {
-    static uint8_t bytes[MOST], told[MOST];
-    ask(bytes, load(requests_name, bytes));
+static void stream(const struct stored *t, struct sample *s) {
+    ask(t->requests, t->length);
     const struct plan *p = plan(requests, length);
-    stored(p, told, load(answers_name, told));
-    take_samples(s, p);
+    as_stored(p, t);
+    take_samples(s, requests, p);
     batch(p, p->written[p->records]);
     if (length < 4096)
         every_room(p);
@@ -250,15 +176,7 @@ static void noise(void) {
     uint8_t bytes[BYTES];
     uint64_t seed = 1;
     for (int n = 0; n < 20000; n++) {
-        for (size_t at = 0; at < sizeof bytes; at++) {
-            seed = seed * 6364136223846793005u + 1442695040888963407u;
-            bytes[at] = (uint8_t)(seed >> 56);
-        }
-        for (size_t at = 0; at < sizeof bytes && bytes[at] % 8 != 0;) {
-            const struct kind *k = &KINDS[bytes[at] % KIND_COUNT];
-            bytes[at] = k->number;
-            at += 1 + k->body;
-        }
+        noise_records(bytes, sizeof bytes, &seed);
         ask(bytes, (size_t)(seed >> 32) % (sizeof bytes + 1));
         batch(plan(requests, length), (size_t)(seed >> 40) % 300);
     }
@@ -294,7 +212,7 @@ int main(int count, char **words) {
         give_up("usage", "test REQUESTS ANSWERS ...");
     longest();
     for (int i = 1; i < count; i += 2)
-        stream(words[i], words[i + 1], &s);
+        stream(stored(words[i], words[i + 1]), &s);
     check(s.kinds == KIND_COUNT, "every kind has a stored answer", s.kinds);
     every_cut(&s);
     damaged(&s);
@@ -302,6 +220,5 @@ int main(int count, char **words) {
     unknown(&s);
     noise();
     empty();
-    printf("%lu checks, %lu failed\n", checks, failures);
-    return failures != 0;
+    return end();
 }
