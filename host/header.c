@@ -1,7 +1,7 @@
 /*
  * header.c: what include/raveltrellis.h writes out itself, tried from C and from C++ (the file is
- * both): the kinds and codes, the functions on double and float, and the report as a struct.
- * Says which are wrong.
+ * both): the kinds and codes, the functions on double and float, and the report and the feed as
+ * structs. Says which are wrong.
  */
 #include <stdio.h>
 
@@ -23,9 +23,11 @@ static int same_f32(float x, uint32_t bits) { return rvt_bits_f32(x) == bits; }
 static void kinds(void) {
     check(RVT_TGAMMA == 1 && RVT_LGAMMA_R == 2 && RVT_ERF == 3 && RVT_ERFC == 4, "the kinds of f64");
     check(RVT_LGAMMAF_R == 17 && RVT_ERFF == 19 && RVT_ERFCF == 20, "the kinds of f32");
-    check(RVT_DONE == 0 && RVT_UNKNOWN == 1 && RVT_CUT == 2 && RVT_FULL == 3 && RVT_REPORT_LENGTH == 10, "the codes");
+    check(RVT_DONE == 0 && RVT_UNKNOWN == 1 && RVT_CUT == 2 && RVT_FULL == 3, "the codes");
+    check(RVT_REPORT_LENGTH == 10 && RVT_FEED_LENGTH == 10, "the codes of another length");
     check(RVT_VERSION == 10000 * RVT_VERSION_MAJOR + 100 * RVT_VERSION_MINOR + RVT_VERSION_PATCH, "the version");
     check(sizeof(struct rvt_report) == RVT_REPORT_BYTES, "the bytes of a report");
+    check(sizeof(struct rvt_feed) == RVT_FEED_BYTES, "the bytes of a feed");
 }
 
 static void doubles(void) {
@@ -61,10 +63,35 @@ static void batch(void) {
     check(rvt_number(answers + 1) == 0x3FF0000000000000, "its answer");
 }
 
+/* The state of a feed: so many bytes held, with the kind at the front. */
+static int state(const struct rvt_feed *feed, uint8_t kind, uint64_t held) {
+    return feed->state[0] == kind && rvt_number(feed->state + 8) == held;
+}
+
+static void feed(void) {
+    const uint8_t requests[] = {RVT_ERF, 0, 0, 0, 0, 0, 0, 0x18, 0x40, RVT_LGAMMA_R, 0, 0, 0, 0, 0, 0, 0xF0, 0x3F, 0};
+    uint8_t answers[2 * RVT_LONGEST_ANSWER];
+    struct rvt_feed one = {{0}, 7, 7}, other;
+    check(rvt_feed_take(&one, requests, 4, answers, 0) == RVT_DONE, "the start of a record");
+    check(one.taken == 4 && one.written == 0 && state(&one, RVT_ERF, 4), "it is held");
+    other = one;
+    check(rvt_feed_end(&other) == RVT_CUT && other.taken == 0 && state(&other, 0, 0), "a copy is closed");
+    check(rvt_feed_end(&other) == RVT_DONE, "and is empty");
+    check(rvt_feed_take(&one, requests + 4, 14, answers, 18) == RVT_FULL, "room for one record");
+    check(one.taken == 13 && one.written == 9 && state(&one, RVT_LGAMMA_R, 8), "the other is held but for a byte");
+    check(rvt_number(answers + 1) == 0x3FF0000000000000, "the answer");
+    check(rvt_feed_take(&one, requests + 17, 2, answers, sizeof answers) == RVT_UNKNOWN, "no kind behind them");
+    check(one.taken == 1 && one.written == 10 && state(&one, 0, 9), "the feed has stopped");
+    check(answers[0] == RVT_LGAMMA_R + 128 && answers[9] == 1, "the other answer");
+    check(rvt_feed_end(&one) == RVT_UNKNOWN && one.taken == 0 && one.written == 0 && state(&one, 0, 9), "it stays so");
+    check(rvt_feed_take(&one, NULL, 0, NULL, 0) == RVT_UNKNOWN, "and says so");
+}
+
 int main(void) {
     kinds();
     doubles();
     floats();
     batch();
+    feed();
     return failures != 0;
 }

@@ -22,6 +22,7 @@ build() { # NAME OPTION-OR-FILE..
 flags="-O2 -Wall -Wextra -Wpedantic -Wconversion -Wshadow -Werror -Iinclude -I$out"
 posix=-D_POSIX_C_SOURCE=200809L
 build test -std=c99 host/test.c
+build feed_test -std=c99 host/feed_test.c
 build header_c99 -std=c99 host/header.c
 build header_c11 -std=c11 host/header.c
 $cxx $flags -std=c++11 -Wold-style-cast -x c++ -c -o "$out/header.o" host/header.c
@@ -33,6 +34,7 @@ build flaky_gateway -std=c99 $posix -Wl,--wrap=read,--wrap=write host/gateway.c 
 pairs='crates/answers/stdin crates/answers/stdout'
 for requests in cases/*.requests; do pairs="$pairs $requests ${requests%requests}answers"; done
 $run "$out/test" $pairs || die "the entries"
+$run "$out/feed_test" $pairs || die "the feed"
 for name in header_c99 header_c11 header_cxx; do $run "$out/$name" || die "$name"; done
 
 # the host on the stored streams, also where signals cut its reads and writes short: it writes what is stored but for the closing bytes, and
@@ -72,6 +74,6 @@ printf '\0' >&3
 ends 1 "an unknown kind on an open pipe" timeout 60 $gateway <"$work/pipe"
 exec 3>&-
 
-echo "host: the entries, the header and the host answer as stored"
+echo "host: the entries, the feed, the header and the host answer as stored"
 
 host/install_test.sh
