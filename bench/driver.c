@@ -1,15 +1,17 @@
 /*
- * driver.c: the port beside crate libm, glibc and musl on the same arguments, for bench/run.
+ * driver.c: the port beside crate libm, glibc and musl on the same arguments, and its feed beside its batch on the same
+ * records, for bench/run.
  *
- *     driver names                        what can be timed, a line each
- *     driver same SEED                    a pass of port and Rust of each, whose answers are compared
+ *     driver names                        what can be timed: lines WHAT LIBRARY LIBRARY, the two that are compared
+ *     driver same SEED                    a pass of both of each, whose answers are compared
  *     driver times SEED                   times all of it: lines WHAT LIBRARY NANOSECONDS-A-CALL
  *     driver passes WHAT LIBRARY COUNT    so many passes of one library, for a counter of instructions
  *
  * A pass is 4,000 arguments spread evenly over the function's regions, of both signs, shuffled. The libraries take turns,
- * and the best of REPEATS passes counts. After each turn every answer of the port is held to the Rust's: where one differs,
- * the function and the argument are said and the status is 1. musl's functions are those of its libc.a with the prefix musl_, where HAVE_MUSL
- * is set. kinds.h is made from kinds.txt, and a function finds its kind there by its name.
+ * and the best of REPEATS passes counts. After each turn every answer of the port is held to the Rust's, and of the feed to
+ * the batch's: where one differs, the function and the argument are said and the status is 1. musl's functions are those of
+ * its libc.a with the prefix musl_, where HAVE_MUSL is set. The feed is timed where HAVE_FEED is set. kinds.h is made from
+ * kinds.txt, and a function finds its kind there by its name.
  */
 #define _GNU_SOURCE
 #include "raveltrellis.h"
@@ -159,8 +161,9 @@ static void make_arguments(const struct function *f) {
     for (int i = 0; i < COUNT; i++) arguments[i] = argument(f);
 }
 
-/* Requests of one function, or of every function by turns. */
-static void make_requests(const struct function *only) {
+/* Requests of erf, or of every function by turns. */
+static void make_requests(int of_erf) {
+    const struct function *only = of_erf ? function_named("erf") : NULL;
     requests_length = 0;
     for (int i = 0; i < COUNT; i++) {
         const struct function *f = only ? only : &FUNCTIONS[next() % FUNCTION_COUNT];
@@ -185,34 +188,77 @@ static void functions_pass(const struct function *f, int library) {
         for (int i = 0; i < COUNT; i++) to[i] = narrow((uint32_t)arguments[i]);
 }
 
-/* The port's batch; the Rust's batch, or its loop where the records are erf's alone. */
-static void batch_pass(int of_erf, int library) {
-    uint8_t *to = answers[library];
+/* Two that answer the same records: the port's batch and the Rust; or, in pieces of so many bytes, its feed and its batch. */
+struct pair {
+    const char *name;
+    int of_erf;
+    size_t piece;
+};
+
+static const char *const FEED[2] = {"feed", "batch"};
+static const char *const *sides(const struct pair *p) { return p->piece ? FEED : LIBRARY; }
+
+#ifdef HAVE_FEED
+#define FEEDS(of, of_erf) {of "feed_4k", of_erf, 4096}, {of "feed_9", of_erf, 9}, {of "feed_1", of_erf, 1},
+
+/* The feed, with room for all. */
+static uint64_t feed_pass(size_t piece, uint8_t *to) {
+    uint8_t feed[RVT_FEED_BYTES] = {0}, *end = to + sizeof answers[0];
+    for (size_t at = 0; at < requests_length; at += piece) {
+        size_t rest = requests_length - at;
+        uint64_t code = rvt_feed_push(feed, sizeof feed, requests + at, rest < piece ? rest : piece, to, (size_t)(end - to));
+        if (code != RVT_DONE) return code;
+        to += rvt_number(feed + 24);
+    }
+    return rvt_feed_close(feed, sizeof feed);
+}
+#else
+#define FEEDS(of, of_erf)
+#define feed_pass(piece, to) RVT_DONE
+#endif
+
+/* A feed stands behind the batch whose records it takes. */
+static const struct pair PAIRS[] = {{"batch", 0, 0}, FEEDS("", 0) {"erf_records", 1, 0}, FEEDS("erf_", 1)};
+
+enum { PAIR_COUNT = sizeof PAIRS / sizeof PAIRS[0] };
+
+static const struct pair *pair_named(const char *name) {
+    for (const struct pair *p = PAIRS; p < PAIRS + PAIR_COUNT; p++)
+        if (strcmp(p->name, name) == 0) return p;
+    fprintf(stderr, "driver: there is no %s\n", name);
+    exit(2);
+}
+
+/* The feed; the port's batch; the Rust's batch, or its loop where the records are erf's alone. */
+static void records_pass(const struct pair *p, int side) {
+    uint8_t *to = answers[side];
     uint64_t code = 0;
-    if (library == PORT)
+    if (p->piece && side == 0)
+        code = feed_pass(p->piece, to);
+    else if (p->piece || side == PORT)
         code = rvt_batch_code(requests, requests_length, to, sizeof answers[0]);
-    else if (of_erf)
+    else if (p->of_erf)
         rust_erf_records(requests, COUNT, to);
     else
         code = rust_batch_code(requests, requests_length, to, sizeof answers[0]);
     if (code == 0) return;
-    fprintf(stderr, "driver: the batch of the %s stopped with code %d\n", LIBRARY[library], (int)code);
+    fprintf(stderr, "driver: %s: the %s stopped with code %d\n", p->name, sides(p)[side], (int)code);
     exit(1);
 }
 
 /* ---- answers that differ */
 
 /* Says a difference, where few have been said. */
-static void differs(const char *what, const char *name, uint64_t x, uint64_t port, uint64_t rust) {
+static void differs(const char *what, const char *name, uint64_t x, const char *const *by, uint64_t one, uint64_t two) {
     static int said;
     if (said++ >= SHOWN) return;
-    fprintf(stderr, "bench: %s: %s of 0x%" PRIx64 ": port 0x%" PRIx64 ", Rust 0x%" PRIx64 "\n", what, name, x, port, rust);
+    fprintf(stderr, "bench: %s: %s of 0x%" PRIx64 ": %s 0x%" PRIx64 ", %s 0x%" PRIx64 "\n", what, name, x, by[0], one, by[1], two);
 }
 
 static void same_values(const struct function *f) {
     if (memcmp(values[PORT], values[RUST], sizeof values[0]) == 0) return;
     for (int i = 0; i < COUNT; i++)
-        if (values[PORT][i] != values[RUST][i]) differs("function", f->name, arguments[i], values[PORT][i], values[RUST][i]);
+        if (values[PORT][i] != values[RUST][i]) differs("function", f->name, arguments[i], LIBRARY, values[PORT][i], values[RUST][i]);
     exit(1);
 }
 
@@ -223,18 +269,18 @@ static uint64_t word(const uint8_t *bytes, size_t width) {
 }
 
 /* The records are told apart by their kinds. What is shown of an answer is its first value. */
-static void same_answers(const char *what) {
-    if (memcmp(answers[PORT], answers[RUST], sizeof answers[0]) == 0) return;
+static void same_answers(const struct pair *p) {
+    if (memcmp(answers[0], answers[1], sizeof answers[0]) == 0) return;
     for (size_t read = 0, at = 0; read < requests_length;) {
         const struct kind *k = kind_numbered(requests[read]);
-        const uint8_t *port = answers[PORT] + at, *rust = answers[RUST] + at;
+        const uint8_t *one = answers[0] + at, *two = answers[1] + at;
         size_t length = 1 + k->values + k->tail;
-        if (memcmp(port, rust, length) != 0)
-            differs(what, k->name, word(requests + read + 1, k->body), word(port + 1, k->body), word(rust + 1, k->body));
+        if (memcmp(one, two, length) != 0)
+            differs(p->name, k->name, word(requests + read + 1, k->body), sides(p), word(one + 1, k->body), word(two + 1, k->body));
         read += 1 + k->body;
         at += length;
     }
-    fprintf(stderr, "bench: %s: port and Rust wrote different bytes\n", what);
+    fprintf(stderr, "bench: %s: %s and %s wrote different bytes\n", p->name, sides(p)[0], sides(p)[1]);
     exit(1);
 }
 
@@ -246,9 +292,9 @@ static double now(void) {
     return t.tv_sec * 1e9 + t.tv_nsec;
 }
 
-static void print_times(const char *what, const double *best) {
+static void print_times(const char *what, const char *const *library, const double *best) {
     for (int l = 0; l < LIBRARIES; l++)
-        if (best[l] < 1e300) printf("%s %s %.2f\n", what, LIBRARY[l], best[l] / COUNT);
+        if (best[l] < 1e300) printf("%s %s %.2f\n", what, library[l], best[l] / COUNT);
     fflush(stdout);
 }
 
@@ -265,32 +311,29 @@ static void time_function(const struct function *f) {
         }
         same_values(f);
     }
-    print_times(f->name, best);
+    print_times(f->name, LIBRARY, best);
 }
 
-static void time_batch(const char *what, int of_erf) {
+static void time_records(const struct pair *p) {
     double best[LIBRARIES] = {1e300, 1e300, 1e300, 1e300};
-    make_requests(of_erf ? function_named("erf") : NULL);
+    if (!p->piece) make_requests(p->of_erf);
     for (int n = 0; n < REPEATS; n++) {
-        for (int l = PORT; l <= RUST; l++) {
-            memset(answers[l], 0, sizeof answers[l]);
+        for (int side = 0; side < 2; side++) {
+            memset(answers[side], 0, sizeof answers[side]);
             double start = now();
-            batch_pass(of_erf, l);
-            best[l] = fmin(best[l], now() - start);
+            records_pass(p, side);
+            best[side] = fmin(best[side], now() - start);
         }
-        same_answers(what);
+        same_answers(p);
     }
-    print_times(what, best);
+    print_times(p->name, sides(p), best);
 }
 
 /* ---- the commands */
 
-static const char BATCH[] = "batch", ERF_RECORDS[] = "erf_records";
-
 static int names(void) {
-    for (size_t i = 0; i < FUNCTION_COUNT; i++) puts(FUNCTIONS[i].name);
-    puts(BATCH);
-    puts(ERF_RECORDS);
+    for (size_t i = 0; i < FUNCTION_COUNT; i++) printf("%s %s %s\n", FUNCTIONS[i].name, LIBRARY[PORT], LIBRARY[RUST]);
+    for (const struct pair *p = PAIRS; p < PAIRS + PAIR_COUNT; p++) printf("%s %s %s\n", p->name, sides(p)[0], sides(p)[1]);
     for (size_t i = 0; i < KIND_COUNT; i++)
         if (!function_named(KINDS[i].name)) fprintf(stderr, "bench: kind %d, %s, is not timed\n", KINDS[i].number, KINDS[i].name);
     return 0;
@@ -306,10 +349,10 @@ static int times(uint64_t seed) {
         progress(FUNCTIONS[i].name);
         time_function(&FUNCTIONS[i]);
     }
-    progress(BATCH);
-    time_batch(BATCH, 0);
-    progress(ERF_RECORDS);
-    time_batch(ERF_RECORDS, 1);
+    for (const struct pair *p = PAIRS; p < PAIRS + PAIR_COUNT; p++) {
+        progress(p->name);
+        time_records(p);
+    }
     return 0;
 }
 
@@ -321,28 +364,26 @@ static int same(uint64_t seed) {
         functions_pass(&FUNCTIONS[i], RUST);
         same_values(&FUNCTIONS[i]);
     }
-    for (int of_erf = 0; of_erf <= 1; of_erf++) {
-        make_requests(of_erf ? function_named("erf") : NULL);
-        batch_pass(of_erf, PORT);
-        batch_pass(of_erf, RUST);
-        same_answers(of_erf ? ERF_RECORDS : BATCH);
+    for (const struct pair *p = PAIRS; p < PAIRS + PAIR_COUNT; p++) {
+        if (!p->piece) make_requests(p->of_erf);
+        memset(answers, 0, sizeof answers);
+        records_pass(p, 0);
+        records_pass(p, 1);
+        same_answers(p);
     }
     return 0;
 }
 
 static int passes(const char *what, const char *library, long count) {
     const struct function *f = function_named(what);
-    int of_erf = strcmp(what, ERF_RECORDS) == 0, l = strcmp(library, LIBRARY[PORT]) == 0 ? PORT : RUST;
+    const struct pair *p = f ? NULL : pair_named(what);
+    int side = strcmp(library, p ? sides(p)[0] : LIBRARY[PORT]) != 0;
     state = 1;
-    if (f)
-        make_arguments(f);
-    else
-        make_requests(of_erf ? function_named("erf") : NULL);
+    if (f) make_arguments(f);
+    else make_requests(p->of_erf);
     for (long n = 0; n < count; n++) {
-        if (f)
-            functions_pass(f, l);
-        else
-            batch_pass(of_erf, l);
+        if (f) functions_pass(f, side);
+        else records_pass(p, side);
     }
     return 0;
 }

@@ -1,9 +1,9 @@
-# table.awk: a summary as a table in Markdown.
+# table.awk: a summary as tables in Markdown, one of the port beside the Rust and one of the feed beside the batch.
 /^#/ { sub(/^# /, ""); head = $0; next }
 {
     if (!($1 in seen)) { seen[$1] = 1; names[++count] = $1 }
     if ($2 == "ratio") ratio[$1] = $3 == $5 ? $4 : sprintf("%s (%s to %s)", $4, $3, $5)
-    else { number[$1, $2] = $3; if ($2 == "glibc" || $2 == "musl") others = 1 }
+    else { number[$1, $2] = $3; if ($2 == "glibc" || $2 == "musl") others = 1; if ($2 == "feed") feeds = 1 }
 }
 function show(name, library) { return ((name, library) in number) ? number[name, library] : "" }
 END {
@@ -12,11 +12,20 @@ END {
     print "|---|---|---|---|" (others ? "---|---|" : "")
     for (i = 1; i <= count; i++) {
         n = names[i]
+        if ((n, "feed") in number) continue
         label = n
         if (n == "batch") label = "batch of all kinds, a record"
         if (n == "erf_records") label = "batch of erf against a loop, a record"
         printf "| %s | %s | %s | %s |", label, show(n, "port"), show(n, "Rust"), ratio[n]
         if (others) printf " %s | %s |", show(n, "glibc"), show(n, "musl")
         print ""
+    }
+    if (feeds) print "\n| the feed, a record | feed | batch | feed / batch |\n|---|---|---|---|"
+    for (i = 1; i <= count; i++) {
+        n = names[i]
+        if (!((n, "feed") in number)) continue
+        records = n ~ /^erf/ ? "erf" : "all kinds"
+        pieces = n ~ /4k$/ ? "in pieces of 4,096 bytes" : n ~ /9$/ ? "in pieces of 9 bytes" : "byte by byte"
+        printf "| %s %s | %s | %s | %s |\n", records, pieces, show(n, "feed"), show(n, "batch"), ratio[n]
     }
 }
