@@ -95,9 +95,10 @@ fn fresh(piece: &[u8], answers: &mut [u8]) -> Fed
     }
     if t.code == FULL {
         let width = body(piece[read]);
+        let taken = read + width;
         return Fed {
             feed: holding(piece, read, width),
-            taken: read + width,
+            taken,
             written,
             code: FULL,
         };
@@ -120,21 +121,24 @@ fn whole(held: u64, have: usize, width: usize, piece: &[u8], answers: &mut [u8])
     let record = joined(held, have, piece, need);
     let t = batch(&record[..width + 1], answers);
     if t.code == FULL {
+        let taken = need - 1;
         return Fed {
             feed: holding(&record, 0, width),
-            taken: need - 1,
+            taken,
             written: 0,
             code: FULL,
         };
     }
     let n = t.tally;
-    let written = n.written;
-    let r = fresh(&piece[need..], &mut answers[written..]);
+    let first = n.written;
+    let r = fresh(&piece[need..], &mut answers[first..]);
     let feed = r.feed;
+    let taken = need + r.taken;
+    let written = first + r.written;
     Fed {
         feed,
-        taken: need + r.taken,
-        written: written + r.written,
+        taken,
+        written,
         code: r.code,
     }
 }

@@ -103,13 +103,13 @@ shared-slice-read-body c = no-room (at-3 (c .before .before)) (c .before .if3 .t
 body-requires : tie.Need-body-requires
 body-requires c κs = search needs
 
+add-taken : tie.Need-add-taken
+add-taken c =
+    let b = at-3 (c .before .before .before) in
+    omega (arith, no-room b (c .before .before .if3 .taken) .1, c .body .ensures, b .before .before .before .before .good .0 .0)
+
 holding-requires-2 : tie.Need-holding-requires-2
 holding-requires-2 c κs = omega (arith, no-room (at-3 (c .before .before .before)) (c .before .before .if3 .taken) .1, c .body .ensures)
-
-add-t19 : tie.Need-add-t19
-add-t19 c =
-    let b = at-3 (c .before .before .before .before) in
-    omega (arith, no-room b (c .before .before .before .if3 .taken) .1, c .before .body .ensures, b .before .before .before .before .good .0 .0)
 
 same-length-3 : tie.Need-same-length-3
 same-length-3 c = search needs
@@ -151,8 +151,8 @@ fresh-spec =
     returns-2
     shared-slice-read-body
     body-requires
+    add-taken
     holding-requires-2
-    add-t19
     same-length-3
     returns-3
     empty-requires

@@ -125,14 +125,14 @@ slice-aggregate-batch c =
 batch-requires : tie.Need-batch-requires
 batch-requires c κs = search needs
 
+sub-taken : tie.Need-sub-taken
+sub-taken c = search needs
+
 slice-aggregate-holding : tie.Need-slice-aggregate-holding
 slice-aggregate-holding c = search needs
 
 holding-requires : tie.Need-holding-requires
 holding-requires c κs = omega (arith, narrow (start (c .before .before .before .before .before)))
-
-sub-t23 : tie.Need-sub-t23
-sub-t23 c = search needs
 
 same-length : tie.Need-same-length
 same-length c = search needs
@@ -168,11 +168,11 @@ part-fresh-end-2 c = search needs
 fresh-requires : tie.Need-fresh-requires
 fresh-requires c κs = search needs
 
-add-t13 : tie.Need-add-t13
-add-t13 c = omega (arith, taken-in (c .before .before .before .before), begin (c .before .before .before .before) .good)
+add-taken : tie.Need-add-taken
+add-taken c = omega (arith, taken-in (c .before .before .before .before), begin (c .before .before .before .before) .good)
 
-add-t28 : tie.Need-add-t28
-add-t28 c = omega (arith, written-in (c .before .before .before .before .before), begin (c .before .before .before .before .before) .good)
+add-written : tie.Need-add-written
+add-written c = omega (arith, written-in (c .before .before .before .before .before), begin (c .before .before .before .before .before) .good)
 
 same-length-2 : tie.Need-same-length-2
 same-length-2 c = search needs
@@ -201,9 +201,9 @@ whole-spec =
     array-share-prefix-record
     slice-aggregate-batch
     batch-requires
+    sub-taken
     slice-aggregate-holding
     holding-requires
-    sub-t23
     same-length
     returns
     sub-fresh
@@ -213,7 +213,7 @@ whole-spec =
     part-fresh-start-2
     part-fresh-end-2
     fresh-requires
-    add-t13
-    add-t28
+    add-taken
+    add-written
     same-length-2
     returns-2)
