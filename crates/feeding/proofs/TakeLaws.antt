@@ -74,21 +74,6 @@ pub begun-none : (T : List Row) → begun T [] ≡ true
 unfolding begun
 begun-none T = refl
 
--- a call takes no more than the piece, and leaves such a feed
-pub takes-good : (T : List Row) (h p : List ℕ) (room : ℕ) → begun T h ≡ true → Good T (takes T h p room .feed) × (takes T h p room .taken ≤ length p)
-unfolding takes
-takes-good T h [] room e = (e, omega arith)
-takes-good T h (b ∷ p) room e =
-    let s = h ++ (b ∷ []) in
-    byte-elim T h b room
-    (λ (o : Out). Good T (turn o h (takes T s p room) (takes T [] p (room - o .tally .written)) .feed)
-    × (turn o h (takes T s p room) (takes T [] p (room - o .tally .written)) .taken ≤ suc (length p)))
-    e
-    (λ u. (tt, omega arith))
-    (λ i. let g = takes-good T s p room (i .0) in (g .0, omega (arith, g .1)))
-    (λ w x l n f. (e, omega arith))
-    (λ w x l f. let g = takes-good T [] p (room - length x) (begun-none T) in (g .0, omega (arith, g .1)))
-
 pub call-open : (T : List Row) (h p : List ℕ) (room : ℕ) → begun T h ≡ true → call T (Open h) p room ≡ takes T h p room
 unfolding call
 call-open T h p room e = rw e
@@ -165,3 +150,18 @@ takes-more T h (b ∷ p) t room large e a =
     let k = ap (at-byte T h s q large) (l .1 .1 large g) in
     absurd (⊎-elim (λ (m : room ≤ large). omega arith) (λ (n : takes T h (b ∷ q) large .code ≡ FULL → ⊥). n (ap (λ (c : Call). c .code) k)) a))
     (le-or (length x) large))
+
+-- a call takes no more than the piece, and leaves such a feed
+pub takes-good : (T : List Row) (h p : List ℕ) (room : ℕ) → begun T h ≡ true → Good T (takes T h p room .feed) × (takes T h p room .taken ≤ length p)
+unfolding takes
+takes-good T h [] room e = (e, omega arith)
+takes-good T h (b ∷ p) room e =
+    let s = h ++ (b ∷ []) in
+    byte-elim T h b room
+    (λ (o : Out). Good T (turn o h (takes T s p room) (takes T [] p (room - o .tally .written)) .feed)
+    × (turn o h (takes T s p room) (takes T [] p (room - o .tally .written)) .taken ≤ suc (length p)))
+    e
+    (λ u. (tt, omega arith))
+    (λ i. let g = takes-good T s p room (i .0) in (g .0, omega (arith, g .1)))
+    (λ w x l n f. (e, omega arith))
+    (λ w x l f. let g = takes-good T [] p (room - length x) (begun-none T) in (g .0, omega (arith, g .1)))

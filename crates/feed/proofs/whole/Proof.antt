@@ -73,35 +73,6 @@ module _ (b : tie.After-batch) where
       ⊎ Answered table (held start) (have start) (width start) (piece start) bytes (start .pre .0 .0) (start .pre .0 .1) (start .pre .1 .0) (start .pre .1 .1) (b .before .before .before .joined .ensures) (length (answers start))
   cases = by-batch table (held start) (have start) (width start) (piece start) bytes (start .pre .0 .0) (start .pre .0 .1) (start .pre .1 .0) (start .pre .1 .1) (b .before .before .before .joined .ensures) (length (answers start))
 
--- and the call on the rest
-module _ (f : tie.After-fresh) where
-  abbrev batch-at : tie.After-batch
-  batch-at = f .before .before .before .before .before .before .before .before
-
-  abbrev begin : tie.Start
-  begin = start batch-at
-
-  abbrev v : ℕ
-  v = batch-at .batch .result .tally .written
-
-  abbrev rest : Call
-  rest = takes table [] (take (length (piece begin) - need begin) (drop (need begin) (piece begin))) (length (take (length (after batch-at) - v) (drop v (after batch-at))))
-
-  taken-in : need begin + f .fresh .result .taken ≤ length (piece begin)
-  taken-in =
-      let l : need begin ≤ length (piece begin) = omega (arith, begin .pre .1 .1) in
-      let d = length-drop (need begin) (piece begin) in
-      let k = length-take-le (length (piece begin) - need begin) (drop (need begin) (piece begin)) (omega arith) in
-      let g = takes-good table [] (take (length (piece begin) - need begin) (drop (need begin) (piece begin))) (length (take (length (after batch-at) - v) (drop v (after batch-at)))) (begun-none table) in
-      omega (arith, g .1, f .fresh .ensures .taken)
-
-  written-in : v + f .fresh .result .written ≤ length (after batch-at)
-  written-in =
-      let d = length-drop v (after batch-at) in
-      let k = length-take-le (length (after batch-at) - v) (drop v (after batch-at)) (omega arith) in
-      let g = takes-fits table (take (length (piece begin) - need begin) (drop (need begin) (piece begin))) (length (take (length (after batch-at) - v) (drop v (after batch-at)))) in
-      omega (arith, g, f .fresh .ensures .written, fits batch-at)
-
 add-need : tie.Need-add-need
 add-need c = omega (arith, narrow (c .before .before))
 
@@ -167,6 +138,35 @@ part-fresh-end-2 c = search needs
 
 fresh-requires : tie.Need-fresh-requires
 fresh-requires c κs = search needs
+
+-- and the call on the rest
+module _ (f : tie.After-fresh) where
+  abbrev batch-at : tie.After-batch
+  batch-at = f .before .before .before .before .before .before .before .before
+
+  abbrev begin : tie.Start
+  begin = start batch-at
+
+  abbrev v : ℕ
+  v = batch-at .batch .result .tally .written
+
+  abbrev rest : Call
+  rest = takes table [] (take (length (piece begin) - need begin) (drop (need begin) (piece begin))) (length (take (length (after batch-at) - v) (drop v (after batch-at))))
+
+  taken-in : need begin + f .fresh .result .taken ≤ length (piece begin)
+  taken-in =
+      let l : need begin ≤ length (piece begin) = omega (arith, begin .pre .1 .1) in
+      let d = length-drop (need begin) (piece begin) in
+      let k = length-take-le (length (piece begin) - need begin) (drop (need begin) (piece begin)) (omega arith) in
+      let g = takes-good table [] (take (length (piece begin) - need begin) (drop (need begin) (piece begin))) (length (take (length (after batch-at) - v) (drop v (after batch-at)))) (begun-none table) in
+      omega (arith, g .1, f .fresh .ensures .taken)
+
+  written-in : v + f .fresh .result .written ≤ length (after batch-at)
+  written-in =
+      let d = length-drop v (after batch-at) in
+      let k = length-take-le (length (after batch-at) - v) (drop v (after batch-at)) (omega arith) in
+      let g = takes-fits table (take (length (piece begin) - need begin) (drop (need begin) (piece begin))) (length (take (length (after batch-at) - v) (drop v (after batch-at)))) in
+      omega (arith, g, f .fresh .ensures .written, fits batch-at)
 
 add-taken : tie.Need-add-taken
 add-taken c = omega (arith, taken-in (c .before .before .before .before), begin (c .before .before .before .before) .good)
