@@ -150,9 +150,6 @@ module _ (f : tie.After-fresh) where
   abbrev v : ℕ
   v = batch-at .batch .result .tally .written
 
-  abbrev rest : Call
-  rest = takes table [] (take (length (piece begin) - need begin) (drop (need begin) (piece begin))) (length (take (length (after batch-at) - v) (drop v (after batch-at))))
-
   taken-in : need begin + f .fresh .result .taken ≤ length (piece begin)
   taken-in =
       let l : need begin ≤ length (piece begin) = omega (arith, begin .pre .1 .1) in
