@@ -8,7 +8,7 @@ use Prim.Native.Nat.{ℕ, zero, suc, _+_, _-_, _≤_, _<_}
 use native.Mathlib.Omega.{arith}
 use borrow.Author.Tests.{ltb-true, lt-ltb}
 use lib.ListN.{length, take, drop, getD, length-append, length-drop}
-use lib.Seq.{append-snoc, split-at, drop-drop, drop-length, length-take-le, take-at}
+use lib.Seq.{append-snoc, split-at, drop-drop, drop-length, length-take-le, take-at, take-take, take-append-add}
 use Rattle.digits.specs.Digits.{word}
 use Rattle.records.specs.Reply.{bytesOf}
 use Rattle.records.specs.Row.{Row, rowIn}
@@ -114,120 +114,119 @@ body (suc w) s z l =
     let e : suc w - 1 ≡ w = omega arith in
     rw e (split-at s w 0 (omega arith), ap suc (length-take-le w s (omega arith)))
 
--- Where h has begun and n more bytes end the record: it is s, which a batch answers, or refuses for want of room.
+-- Where a kind and the bytes g of its body are held, and the first n bytes of the piece p are the rest of it.
 module _ (T : List Row) (k : ℕ) (g p : List ℕ) (n room : ℕ) (some : n ≡ 0 → ⊥) (there : n ≤ length p) (ends-it : suc (length g) + n ≡ rowIn T k .width + 1) where
-  abbrev front-p : List ℕ
-  front-p = take (n - 1) p
+  abbrev w : ℕ
+  w = rowIn T k .width
 
-  abbrev last-p : ℕ
-  last-p = getD p (n - 1) 0
-
+  -- the record, and the answer to it
   abbrev pub whole : List ℕ
   whole = k ∷ (g ++ take n p)
 
-  cut-p : (p ≡ front-p ++ (last-p ∷ drop n p)) × (suc (length front-p) ≡ n)
-  cut-p = body n p some there
-
-  whole-is : whole ≡ k ∷ ((g ++ front-p) ++ (last-p ∷ []))
-  whole-is =
-      let c = cut-p in
-      let front : take n p ≡ front-p ++ (last-p ∷ []) =
-      ap (take n) (c .0 ∙ sym (append-snoc front-p last-p (drop n p)))
-      ∙ take-at (front-p ++ (last-p ∷ [])) (drop n p) n (omega (arith, length-append front-p (last-p ∷ []), c .1)) in
-      ap (λ (y : List ℕ). k ∷ (g ++ y)) front ∙ ap (λ (y : List ℕ). k ∷ y) (sym (append-assoc g front-p (last-p ∷ [])))
-
-  size : suc (length (g ++ front-p)) ≡ rowIn T k .width
-  size = let c = cut-p in omega (arith, length-append g front-p, c .1)
-
-  to-last-p : takes T (k ∷ g) p room ≡ goes (n - 1) [] (takes T (k ∷ (g ++ front-p)) (last-p ∷ drop n p) room)
-  to-last-p =
-      let c = cut-p in
-      let m : length front-p ≡ n - 1 = omega (arith, c .1) in
-      ap (λ (y : List ℕ). takes T (k ∷ g) y room) (c .0)
-      ∙ takes-start T (k ∷ g) front-p (last-p ∷ drop n p) room (begun-body T k (g ++ front-p) size)
-      ∙ ap (λ (j : ℕ). goes j [] (takes T (k ∷ (g ++ front-p)) (last-p ∷ drop n p) room)) m
-
-  -- all of it but its last byte
-  but-last : take (rowIn T k .width) whole ≡ k ∷ (g ++ front-p)
-  but-last =
-      ap (take (rowIn T k .width)) whole-is ∙ take-at (k ∷ (g ++ front-p)) (last-p ∷ []) (rowIn T k .width) size
-
   abbrev answer : List ℕ
-  answer = bytesOf (rowIn T k .reply (word (rowIn T k .width) ((g ++ front-p) ++ (last-p ∷ []))))
+  answer = bytesOf (rowIn T k .reply (word w (g ++ p)))
 
-  no-room : room < length answer → (run T whole room ≡ stop FULL) × (takes T (k ∷ g) p room ≡ goes (n - 1) [] (ends (Open (take (rowIn T k .width) whole)) FULL))
-  no-room f =
-      let o = ap (λ (y : List ℕ). one T y room) whole-is ∙ last-full T k (g ++ front-p) last-p room size f in (
-        run-stop T whole room (ap (λ (y : Out). y .tally .records) o) ∙ o,
-        to-last-p ∙ ap (goes (n - 1) []) (takes-full T k (g ++ front-p) last-p room size (drop n p) f)
-            ∙ ap (λ (y : List ℕ). goes (n - 1) [] (ends (Open y) FULL)) (sym but-last),
-      )
+  -- all of its body but the last byte, and that
+  abbrev front : List ℕ
+  front = g ++ take (n - 1) p
 
-  answered : length answer ≤ room →
-      (run T whole room ≡ took (rowIn T k .width) answer) × (takes T (k ∷ g) p room ≡ goes n answer (takes T [] (drop n p) (room - length answer)))
-  answered f =
-      let o = ap (λ (y : List ℕ). one T y room) whole-is ∙ last-whole T k (g ++ front-p) last-p room size f in
-      let l : length whole ≡ 1 + rowIn T k .width = ap length whole-is ∙ omega (arith, size, length-append (g ++ front-p) (last-p ∷ [])) in
-      let m : (n - 1) + 1 ≡ n = omega (arith, cut-p .1) in (
-        run-single T whole answer (rowIn T k .width) room l o,
-        to-last-p ∙ ap (goes (n - 1) []) (takes-whole T k (g ++ front-p) last-p room size (drop n p) f)
-            ∙ goes-goes (n - 1) 1 [] answer (takes T [] (drop n p) (room - length answer))
-            ∙ ap (λ (j : ℕ). goes j answer (takes T [] (drop n p) (room - length answer))) m,
-      )
+  abbrev last : ℕ
+  last = getD p (n - 1) 0
+
+  cut : (p ≡ take (n - 1) p ++ (last ∷ drop n p)) × (suc (length (take (n - 1) p)) ≡ n)
+  cut = body n p some there
+
+  size : suc (length front) ≡ w
+  size = let c = cut in omega (arith, length-append g (take (n - 1) p), c .1)
+
+  parts : g ++ p ≡ (front ++ (last ∷ [])) ++ drop n p
+  parts = ap (λ (y : List ℕ). g ++ y) (cut .0) ∙ sym (append-assoc g (take (n - 1) p) (last ∷ drop n p)) ∙ sym (append-snoc front last (drop n p))
+
+  whole-is : whole ≡ k ∷ (front ++ (last ∷ []))
+  whole-is =
+      let l = length-append front (last ∷ []) in
+      let m : w ≡ length g + n = omega arith in
+      ap (λ (y : List ℕ). k ∷ y)
+      (sym (take-append-add g p n) ∙ ap (λ (j : ℕ). take j (g ++ p)) (sym m) ∙ ap (take w) parts ∙ take-at (front ++ (last ∷ [])) (drop n p) w (omega (arith, size)))
+
+  answer-is : bytesOf (rowIn T k .reply (word w (front ++ (last ∷ [])))) ≡ answer
+  answer-is =
+      let l = length-append front (last ∷ []) in
+      ap (λ (j : ℕ). bytesOf (rowIn T k .reply j)) (sym (ap (word w) parts ∙ word-append w (front ++ (last ∷ [])) (drop n p) (omega (arith, size))))
+
+  to-last : takes T (k ∷ g) p room ≡ goes (n - 1) [] (takes T (k ∷ front) (last ∷ drop n p) room)
+  to-last =
+      let m : length (take (n - 1) p) ≡ n - 1 = omega (arith, cut .1) in
+      ap (λ (y : List ℕ). takes T (k ∷ g) y room) (cut .0)
+      ∙ takes-start T (k ∷ g) (take (n - 1) p) (last ∷ drop n p) room (begun-body T k front size)
+      ∙ ap (λ (j : ℕ). goes j [] (takes T (k ∷ front) (last ∷ drop n p) room)) m
+
+  takes-no-room : room < length answer → takes T (k ∷ g) p room ≡ goes (n - 1) [] (ends (Open (take w whole)) FULL)
+  takes-no-room f =
+      to-last ∙ ap (goes (n - 1) []) (takes-full T k front last room size (drop n p) (omega (arith, ap length answer-is)))
+      ∙ ap (λ (y : List ℕ). goes (n - 1) [] (ends (Open y) FULL)) (sym (ap (take w) whole-is ∙ take-at (k ∷ front) (last ∷ []) w size))
+
+  takes-answered : length answer ≤ room → takes T (k ∷ g) p room ≡ goes n answer (takes T [] (drop n p) (room - length answer))
+  takes-answered f =
+      let m : (n - 1) + 1 ≡ n = omega (arith, cut .1) in
+      to-last ∙ ap (goes (n - 1) []) (takes-whole T k front last room size (drop n p) (omega (arith, ap length answer-is)))
+      ∙ ap (λ (y : List ℕ). goes (n - 1) [] (goes 1 y (takes T [] (drop n p) (room - length y)))) answer-is
+      ∙ goes-goes (n - 1) 1 [] answer (takes T [] (drop n p) (room - length answer))
+      ∙ ap (λ (j : ℕ). goes j answer (takes T [] (drop n p) (room - length answer))) m
+
+  run-no-room : room < length answer → run T whole room ≡ stop FULL
+  run-no-room f =
+      let o = ap (λ (y : List ℕ). one T y room) whole-is ∙ last-full T k front last room size (omega (arith, ap length answer-is)) in
+      run-stop T whole room (ap (λ (y : Out). y .tally .records) o) ∙ o
+
+  run-answered : length answer ≤ room → run T whole room ≡ took w answer
+  run-answered f =
+      let l : length whole ≡ 1 + w = ap length whole-is ∙ omega (arith, size, length-append front (last ∷ [])) in
+      run-single T whole answer w room l
+      (ap (λ (y : List ℕ). one T y room) whole-is ∙ last-whole T k front last room size (omega (arith, ap length answer-is)) ∙ ap (took w) answer-is)
 
   -- by a batch over the record
-  pub takes-rest : ((run T whole room ≡ stop FULL) × (takes T (k ∷ g) p room ≡ goes (n - 1) [] (ends (Open (take (rowIn T k .width) whole)) FULL)))
+  pub takes-rest : ((run T whole room ≡ stop FULL) × (takes T (k ∷ g) p room ≡ goes (n - 1) [] (ends (Open (take w whole)) FULL)))
       ⊎ ((run T whole room .code ≡ DONE)
       × (takes T (k ∷ g) p room ≡ goes n (run T whole room .bytes) (takes T [] (drop n p) (room - run T whole room .tally .written))))
   takes-rest =
       ⊎-elim
       (λ (f : length answer ≤ room).
-      let r = answered f in
-      inr (ap (λ (y : Out). y .code) (r .0), r .1 ∙ ap (λ (y : Out). goes n (y .bytes) (takes T [] (drop n p) (room - y .tally .written))) (sym (r .0))))
-      (λ (f : room < length answer). inl (no-room f))
+      let r = run-answered f in
+      inr (ap (λ (y : Out). y .code) r, takes-answered f ∙ ap (λ (y : Out). goes n (y .bytes) (takes T [] (drop n p) (room - y .tally .written))) (sym r)))
+      (λ (f : room < length answer). inl (run-no-room f, takes-no-room f))
       (le-or (length answer) room)
 
 -- ---- a piece, where nothing is held
 
 module _ (T : List Row) (k : ℕ) (s : List ℕ) (room : ℕ) (known : rowIn T k .width ≡ 0 → ⊥) (there : rowIn T k .width ≤ length s) where
-  abbrev w : ℕ
-  w = rowIn T k .width
+  abbrev v : ℕ
+  v = rowIn T k .width
 
-  abbrev front : List ℕ
-  front = take (w - 1) s
+  one-byte : takes T [] (k ∷ s) room ≡ goes 1 [] (takes T (k ∷ []) s room)
+  unfolding begun
+  one-byte = takes-start T [] (k ∷ []) s room (lt-ltb 0 v (positive v known))
+    where
+      positive : (n : ℕ) → (n ≡ 0 → ⊥) → 0 < n
+      positive zero z = absurd (z refl)
+      positive (suc n) z = omega arith
 
-  abbrev last : ℕ
-  last = getD s (w - 1) 0
-
-  to-last : takes T [] (k ∷ s) room ≡ goes w [] (takes T (k ∷ front) (last ∷ drop w s) room)
-  to-last =
-      let c = body w s known there in
-      ap (λ (y : List ℕ). takes T [] (k ∷ y) room) (c .0)
-      ∙ takes-start T [] (k ∷ front) (last ∷ drop w s) room (begun-body T k front (c .1))
-      ∙ ap (λ (n : ℕ). goes n [] (takes T (k ∷ front) (last ∷ drop w s) room)) (c .1)
-
-  same-reply : bytesOf (rowIn T k .reply (word w (front ++ (last ∷ [])))) ≡ bytesOf (rowIn T k .reply (word w s))
-  same-reply =
-      let c = body w s known there in
-      let l = length-append front (last ∷ []) in
-      ap (λ (n : ℕ). bytesOf (rowIn T k .reply n))
-      (sym (ap (word w) (c .0 ∙ sym (append-snoc front last (drop w s))) ∙ word-append w (front ++ (last ∷ [])) (drop w s) (omega (arith, c .1))))
-
-  record-full : room < length (bytesOf (rowIn T k .reply (word w s))) → takes T [] (k ∷ s) room ≡ goes w [] (ends (Open (k ∷ front)) FULL)
+  record-full : room < length (bytesOf (rowIn T k .reply (word v s))) → takes T [] (k ∷ s) room ≡ goes v [] (ends (Open (take v (k ∷ s))) FULL)
   record-full f =
-      let c = body w s known there in
-      to-last ∙ ap (goes w []) (takes-full T k front last room (c .1) (drop w s) (omega (arith, ap length same-reply)))
+      let e : 1 + v ≡ v + 1 = omega arith in
+      let m : 1 + (v - 1) ≡ v = omega (arith, body v s known there .1) in
+      let held : take v (k ∷ take v s) ≡ take v (k ∷ s) = take-take v (suc v) (k ∷ s) (omega arith) in
+      one-byte ∙ ap (goes 1 []) (takes-no-room T k [] s v room known there e f)
+      ∙ goes-goes 1 (v - 1) [] [] (ends (Open (take v (k ∷ take v s))) FULL)
+      ∙ ap (λ (n : ℕ). goes n [] (ends (Open (take v (k ∷ take v s))) FULL)) m
+      ∙ ap (λ (y : List ℕ). goes v [] (ends (Open y) FULL)) held
 
-  record-whole : length (bytesOf (rowIn T k .reply (word w s))) ≤ room →
-      takes T [] (k ∷ s) room ≡ goes (1 + w) (bytesOf (rowIn T k .reply (word w s))) (takes T [] (drop w s) (room - length (bytesOf (rowIn T k .reply (word w s)))))
+  record-whole : length (bytesOf (rowIn T k .reply (word v s))) ≤ room →
+      takes T [] (k ∷ s) room ≡ goes (1 + v) (bytesOf (rowIn T k .reply (word v s))) (takes T [] (drop v s) (room - length (bytesOf (rowIn T k .reply (word v s)))))
   record-whole f =
-      let c = body w s known there in
-      let n : w + 1 ≡ 1 + w = omega arith in
-      let x = bytesOf (rowIn T k .reply (word w s)) in
-      to-last ∙ ap (goes w []) (takes-whole T k front last room (c .1) (drop w s) (omega (arith, ap length same-reply)))
-      ∙ ap (λ (y : List ℕ). goes w [] (goes 1 y (takes T [] (drop w s) (room - length y)))) same-reply
-      ∙ goes-goes w 1 [] x (takes T [] (drop w s) (room - length x))
-      ∙ ap (λ (m : ℕ). goes m x (takes T [] (drop w s) (room - length x))) n
+      let e : 1 + v ≡ v + 1 = omega arith in
+      let x = bytesOf (rowIn T k .reply (word v s)) in
+      one-byte ∙ ap (goes 1 []) (takes-answered T k [] s v room known there e f) ∙ goes-goes 1 v [] x (takes T [] (drop v s) (room - length x))
 
 -- what a call goes on with, where a batch did o at the front of the piece
 abbrev behind : List Row → List ℕ → ℕ → Out → Call
@@ -323,10 +322,6 @@ stop-cut : (T : List Row) (d : List ℕ) (room : ℕ) → begun T d ≡ true →
 unfolding takes
 stop-cut T d room e = ap (λ (y : List ℕ). takes T [] y room) (sym (append-nil d)) ∙ takes-start T [] d [] room e
 
-take-body : (w k : ℕ) (s : List ℕ) → (w ≡ 0 → ⊥) → k ∷ take (w - 1) s ≡ take w (k ∷ s)
-take-body zero k s z = absurd (z refl)
-take-body (suc w) k s z = let e : suc w - 1 ≡ w = omega arith in ap (λ (n : ℕ). k ∷ take n s) e
-
 takes-ending : (T : List Row) (d : List ℕ) (room c : ℕ) → one T d room ≡ stop c → takes T [] d room ≡ ending T d c
 unfolding takes begun
 takes-ending T d room c e =
@@ -336,7 +331,6 @@ takes-ending T d room c e =
     (λ k s n l. stop-cut T d room (ap (begun T) n ∙ lt-ltb (length s) (rowIn T k .width) l))
     (λ k s n z l f.
     ap (λ (y : List ℕ). takes T [] y room) n ∙ record-full T k s room z l f
-    ∙ ap (λ (y : List ℕ). goes (rowIn T k .width) [] (ends (Open y) FULL)) (take-body (rowIn T k .width) k s z)
     ∙ ap (λ (y : List ℕ). goes (rowIn T (getD y 0 0) .width) [] (ends (Open (take (rowIn T (getD y 0 0) .width) y)) FULL)) (sym n))
 
 -- A call on a piece where nothing is held: a batch, and then an ending by its code.
