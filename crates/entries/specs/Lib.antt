@@ -2,3 +2,4 @@
 pub mod Post
 pub mod Batch
 pub mod Feed
+pub mod Turns

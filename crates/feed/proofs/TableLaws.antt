@@ -41,23 +41,23 @@ bytes-append : (s t : List ℕ) → Bytes s → Bytes t → Bytes (s ++ t)
 bytes-append [] t a b = b
 bytes-append (x ∷ s) t a b = (a .0, bytes-append s t (a .1) b)
 
-bytes-take : (n : ℕ) (s : List ℕ) → Bytes s → Bytes (take n s)
+pub bytes-take : (n : ℕ) (s : List ℕ) → Bytes s → Bytes (take n s)
 bytes-take zero s a = tt
 bytes-take (suc n) [] a = tt
 bytes-take (suc n) (x ∷ s) a = (a .0, bytes-take n s (a .1))
 
-bytes-drop : (n : ℕ) (s : List ℕ) → Bytes s → Bytes (drop n s)
+pub bytes-drop : (n : ℕ) (s : List ℕ) → Bytes s → Bytes (drop n s)
 bytes-drop zero s a = a
 bytes-drop (suc n) [] a = tt
 bytes-drop (suc n) (x ∷ s) a = bytes-drop n s (a .1)
 
-each-byte : (s : List ℕ) → Bytes s → (i : ℕ) → getD s i 0 < 256
+pub each-byte : (s : List ℕ) → Bytes s → (i : ℕ) → getD s i 0 < 256
 each-byte [] a i = omega arith
 each-byte (x ∷ s) a zero = a .0
 each-byte (x ∷ s) a (suc i) = each-byte s (a .1) i
 
 -- what is held are bytes
-abbrev Held : State → Type 0
+abbrev pub Held : State → Type 0
 Held (Open h) = Bytes h
 Held Stopped = Unit
 
@@ -74,13 +74,13 @@ takes-held T h (x ∷ p) room e a b =
     (λ w y l n f. a)
     (λ w y l f. takes-held T [] p (room - length y) (begun-none T) tt (b .1))
 
-call-held : (T : List Row) (f : State) (p : List ℕ) (room : ℕ) → Good T f → Held f → Bytes p → Held (call T f p room .feed)
+pub call-held : (T : List Row) (f : State) (p : List ℕ) (room : ℕ) → Good T f → Held f → Bytes p → Held (call T f p room .feed)
 call-held T (Open h) p room e a b = rw (call-open T h p room e) (takes-held T h p room e a b)
 call-held T Stopped p room e a b = rw (stopped-stays T p room) tt
 
 -- ---- pushes
 
-begun-eight : (h : List ℕ) → begun table h ≡ true → length h ≤ 8
+pub begun-eight : (h : List ℕ) → begun table h ≡ true → length h ≤ 8
 unfolding begun
 begun-eight [] e = omega arith
 begun-eight (k ∷ s) e = omega (arith, ltb-true (length s) (rowIn table k .width) e, width-small k)

@@ -11,7 +11,7 @@ use Rattle.records.specs.Row.{Row}
 use Rattle.records.specs.Run.{Out}
 use Rattle.feeding.specs.Feed.{State, Open, Stopped, begun, Call, ends, goes, turn, takes, call, Close, over, close}
 use Rattle.feeding.specs.Host.{Longest}
-use Rattle.feeding.specs.Promises.{Good}
+use Rattle.feeding.specs.Promises.{Good, GoesOn}
 use Rattle.feeding.proofs.TakeLaws.{byte-elim, takes-good, call-open, Ample, takes-more}
 
 -- ---- a feed that has stopped
@@ -62,17 +62,30 @@ call-more T Stopped p t room large e a =
     ∙ sym (ap (goes 0 []) (stopped-stays T (drop 0 p ++ t) (large - 0)))
     ∙ ap (λ (c : Call). goes (c .taken) (c .bytes) (call T (c .feed) (drop (c .taken) p ++ t) (large - length (c .bytes)))) (sym (stopped-stays T p room))
 
--- After a 3 in particular: the same call with more room is that call and one on what it left.
-pub goes-on : (T : List Row) (f : State) (p : List ℕ) (room more : ℕ) → Good T f →
-    call T f p (room + more)
-    ≡ goes (call T f p room .taken) (call T f p room .bytes)
-    (call T (call T f p room .feed) (drop (call T f p room .taken) p) (room + more - length (call T f p room .bytes)))
-goes-on T f p room more g =
+-- what a call with room for `large` does after what the call did
+abbrev Onward : List Row → List ℕ → ℕ → Call → Call
+Onward T p large c = goes (c .taken) (c .bytes) (call T (c .feed) (drop (c .taken) p) (large - length (c .bytes)))
+
+good-goes-on : (T : List Row) (f : State) (p : List ℕ) (room more : ℕ) → Good T f → call T f p (room + more) ≡ Onward T p (room + more) (call T f p room)
+good-goes-on T f p room more g =
     let c = call T f p room in
     let e : p ++ [] ≡ p = append-nil p in
     ap (λ (y : List ℕ). call T f y (room + more)) (sym e)
     ∙ call-more T f p [] room (room + more) g (inl (omega arith))
     ∙ ap (λ (y : List ℕ). goes (c .taken) (c .bytes) (call T (c .feed) y (room + more - length (c .bytes)))) (append-nil (drop (c .taken) p))
+
+by-begun : {P : Type 0} (t : Bool) → (t ≡ true → P) → (t ≡ false → P) → P
+by-begun true f g = f refl
+by-begun false f g = g refl
+
+-- After a 3 in particular: the same call with more room is that call and one on what it left.
+pub goes-on : (T : List Row) → GoesOn T
+goes-on T (Open h) p room more =
+    by-begun (begun T h) (good-goes-on T (Open h) p room more)
+    (λ e.
+    let s : (r : ℕ) → call T (Open h) p r ≡ ends Stopped UNKNOWN = λ r. no-start T h p r e .0 ∙ stopped-stays T p r in
+    s (room + more) ∙ sym (ap (goes 0 []) (stopped-stays T p (room + more - 0))) ∙ ap (Onward T p (room + more)) (sym (s room)))
+goes-on T Stopped p room more = good-goes-on T Stopped p room more tt
 
 -- ---- progress
 
@@ -96,8 +109,4 @@ pub progress : (T : List Row) (L : ℕ) → Longest T L → (f : State) (b : ℕ
 progress T L a (Open h) b p room l =
     by-begun (begun T h) (λ e. subst (λ (c : Call). (0 < c .taken) ⊎ (c ≡ ends Stopped UNKNOWN)) (sym (call-open T h (b ∷ p) room e)) (takes-some T L a h b p room e l))
     (λ e. inr (no-start T h (b ∷ p) room e .0 ∙ stopped-stays T (b ∷ p) room))
-  where
-    by-begun : {P : Type 0} (t : Bool) → (t ≡ true → P) → (t ≡ false → P) → P
-    by-begun true f g = f refl
-    by-begun false f g = g refl
 progress T L a Stopped b p room l = inr (stopped-stays T (b ∷ p) room)

@@ -3,6 +3,7 @@
 pub mod TakeLaws
 pub mod RecordLaws
 pub mod CallLaws
+pub mod EndLaws
 pub mod HostLaws
 pub mod LineLaws
 pub mod Promised

@@ -340,18 +340,3 @@ takes-run T p room =
     let o = run T p room in
     takes-records T (suc (length p)) p room (omega arith)
     ∙ ap (goes (o .tally .read) (o .bytes)) (takes-ending T (drop (o .tally .read) p) (room - o .tally .written) (o .code) (run-ends T p room))
-
-ending-none : (T : List Row) (d : List ℕ) (c : ℕ) → ending T d c .bytes ≡ []
-ending-none T d zero = refl
-ending-none T d (suc zero) = refl
-ending-none T d (suc (suc zero)) = refl
-ending-none T d (suc (suc (suc n))) = refl
-
--- and it writes within the room
-pub takes-fits : (T : List Row) (p : List ℕ) (room : ℕ) → length (takes T [] p room .bytes) ≤ room
-takes-fits T p room =
-    let o = run T p room in
-    let e = ending T (drop (o .tally .read) p) (o .code) in
-    let i = run-within T p room in
-    let l = length-append (o .bytes) (e .bytes) in
-    omega (arith, ap (λ (c : Call). length (c .bytes)) (takes-run T p room), ap length (ending-none T (drop (o .tally .read) p) (o .code)), i .fits, i .counts)

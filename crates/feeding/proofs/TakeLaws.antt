@@ -91,7 +91,7 @@ rest-stays : (T : List Row) (h p t : List ℕ) (large code : ℕ) → begun T h 
 rest-stays T h p t large code e =
     sym (goes-none (call T (Open h) (p ++ t) (large - 0)) ∙ call-open T h (p ++ t) (large - 0) e ∙ ap (takes T h (p ++ t)) (sym (same-room large)))
 
-drop-one : (n b : ℕ) (p : List ℕ) → drop (1 + n) (b ∷ p) ≡ drop n p
+pub drop-one : (n b : ℕ) (p : List ℕ) → drop (1 + n) (b ∷ p) ≡ drop n p
 drop-one n b p = let e : 1 + n ≡ suc n = omega arith in ap (λ (k : ℕ). drop k (b ∷ p)) e
 
 -- one byte more in front

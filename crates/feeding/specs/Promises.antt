@@ -5,11 +5,40 @@ use mathlib.Core.Bool.{true, false}
 use mathlib.Core.Logic.{_⊎_}
 use mathlib.Core.List.{List, [], _∷_, _++_}
 use lib.ListN.{length, drop}
-use Rattle.records.specs.Codes.{DONE, UNKNOWN, FULL}
+use Rattle.records.specs.Codes.{DONE, UNKNOWN, CUT, FULL}
 use Rattle.records.specs.Row.{Row}
-use Rattle.records.specs.Run.{Out, run}
+use Rattle.records.specs.Run.{Out, stop, one, run}
 use Rattle.feeding.specs.Feed.{State, Open, Stopped, begun, Call, ends, goes, call, Close, over, close}
 use Rattle.feeding.specs.Host.{Offer, host, Piece, stream, line, again, Done, Longest, Roomy, offering}
+
+-- a feed that calls can leave: it has stopped, or holds the start of a record
+abbrev pub Good : List Row → State → Type 0
+Good T (Open h) = begun T h ≡ true
+Good T Stopped = Unit
+
+-- The start of a record is no bytes, or bytes that a batch finds cut.
+abbrev pub Starts : List Row → Type 0
+Starts T =
+    (h : List ℕ) (room : ℕ) →
+    (begun T h ≡ true → (h ≡ []) ⊎ (one T h room ≡ stop CUT)) × ((h ≡ []) ⊎ (one T h room ≡ stop CUT) → begun T h ≡ true)
+
+-- A call takes no more than the piece, writes no more than the room, and leaves such a feed.
+abbrev pub Within : List Row → Type 0
+Within T =
+    (f : State) (p : List ℕ) (room : ℕ) → Good T f →
+    let c = call T f p room in
+    (c .taken ≤ length p) × ((length (c .bytes) ≤ room) × Good T (c .feed))
+
+-- Why a call ended: the piece is used up; or h is held, and a batch refuses h with the next byte behind it, in the room that is left: for its kind,
+-- and the feed has stopped; or for want of room, and it holds h.
+pub data Ended (T : List Row) (p : List ℕ) (room : ℕ) (c : Call) : Type 0 where
+  used-up : c .code ≡ DONE → c .taken ≡ length p → Ended T p room c
+  unknown : (h q : List ℕ) (b : ℕ) → drop (c .taken) p ≡ b ∷ q → one T (h ++ (b ∷ [])) (room - length (c .bytes)) ≡ stop UNKNOWN → c .code ≡ UNKNOWN → c .feed ≡ Stopped → Ended T p room c
+  no-room : (h q : List ℕ) (b : ℕ) → drop (c .taken) p ≡ b ∷ q → one T (h ++ (b ∷ [])) (room - length (c .bytes)) ≡ stop FULL → c .code ≡ FULL → c .feed ≡ Open h → Ended T p room c
+
+-- A call goes on until then, unless the feed has stopped before.
+abbrev pub Ends : List Row → Type 0
+Ends T = (h p : List ℕ) (room : ℕ) → begun T h ≡ true → Ended T p room (call T (Open h) p room)
 
 -- calls that did r, and then the call that closes, did what a batch did: the answers in a row, and the code
 pub record Same (T : List Row) (r : Call) (o : Out) : Type 0 where
@@ -49,7 +78,9 @@ StaysStopped T =
 
 -- One that holds no start of a record is as one that has stopped.
 abbrev pub NoStart : List Row → Type 0
-NoStart T = (h : List ℕ) → begun T h ≡ false → ((p : List ℕ) (room : ℕ) → call T (Open h) p room ≡ call T Stopped p room) × (close T (Open h) ≡ close T Stopped)
+NoStart T =
+    (h : List ℕ) → begun T h ≡ false →
+    ((p : List ℕ) (room : ℕ) → call T (Open h) p room ≡ call T Stopped p room) × (close T (Open h) ≡ close T Stopped)
 
 -- Any other answers 0 to an empty piece, whatever the room; and closing it gives back an empty feed, and 0 or 2.
 abbrev pub OthersClose : List Row → Type 0
@@ -57,14 +88,9 @@ OthersClose T =
     (h : List ℕ) → begun T h ≡ true →
     ((room : ℕ) → call T (Open h) [] room ≡ ends (Open h) DONE) × (close T (Open h) ≡ record { feed = Open []; code = over h })
 
--- a feed that calls can leave
-abbrev pub Good : List Row → State → Type 0
-Good T (Open h) = begun T h ≡ true
-Good T Stopped = Unit
-
 -- What a call took and wrote stands, also after a 3: the same call with more room is that call, and then another on what it left.
 abbrev pub GoesOn : List Row → Type 0
 GoesOn T =
-    (f : State) (p : List ℕ) (room more : ℕ) → Good T f →
+    (f : State) (p : List ℕ) (room more : ℕ) →
     let c = call T f p room in
     call T f p (room + more) ≡ goes (c .taken) (c .bytes) (call T (c .feed) (drop (c .taken) p) (room + more - length (c .bytes)))

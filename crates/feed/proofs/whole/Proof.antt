@@ -15,7 +15,7 @@ use Rattle.records.specs.declared.Tally.{Tally}
 use Rattle.records.proofs.RunLaws.{run-within}
 use Rattle.feeding.specs.Feed.{Open, Call, goes, takes}
 use Rattle.feeding.proofs.TakeLaws.{begun-none, takes-good}
-use Rattle.feeding.proofs.RecordLaws.{takes-fits}
+use Rattle.feeding.proofs.EndLaws.{takes-fits}
 use Rattle.replies.specs.Table.{table}
 use Rattle.replies.proofs.TableLaws.{width-small}
 use Rattle.feed.specs.Fields.{fields}
@@ -162,7 +162,7 @@ module _ (f : tie.After-fresh) where
   written-in =
       let d = length-drop v (after batch-at) in
       let k = length-take-le (length (after batch-at) - v) (drop v (after batch-at)) (omega arith) in
-      let g = takes-fits table (take (length (piece begin) - need begin) (drop (need begin) (piece begin))) (length (take (length (after batch-at) - v) (drop v (after batch-at)))) in
+      let g = takes-fits table [] (take (length (piece begin) - need begin) (drop (need begin) (piece begin))) (length (take (length (after batch-at) - v) (drop v (after batch-at)))) (begun-none table) in
       omega (arith, g, f .fresh .ensures .written, fits batch-at)
 
 add-taken : tie.Need-add-taken
