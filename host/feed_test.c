@@ -72,7 +72,7 @@ static struct left pushed(const struct call *c, size_t count) {
 
 static struct left wanted(const struct call *c) {
     if (c->size != RVT_FEED_BYTES) {
-        struct left l = {RVT_FEED_LENGTH, 0, 0, c->feed, {0}};
+        struct left l = {RVT_OTHER_LENGTH, 0, 0, c->feed, {0}};
         memcpy(l.feed, c->feed, c->size);
         return l;
     }
@@ -300,8 +300,8 @@ static void empty(const struct sample *s) {
     check(rvt_feed_push(feed, sizeof feed, s->bytes, s->count, NULL, 0) == RVT_FULL, "no room", 0);
     check(rvt_feed_push(feed, sizeof feed, NULL, 0, NULL, 0) == RVT_DONE, "no piece", 0);
     check(held(feed) == kind_of(s->bytes[0])->body, "what was held before it", 0);
-    check(rvt_feed_push(NULL, 0, s->bytes, s->count, NULL, 0) == RVT_FEED_LENGTH, "no feed", 0);
-    check(rvt_feed_close(NULL, 0) == RVT_FEED_LENGTH, "no feed to close", 0);
+    check(rvt_feed_push(NULL, 0, s->bytes, s->count, NULL, 0) == RVT_OTHER_LENGTH, "no feed", 0);
+    check(rvt_feed_close(NULL, 0) == RVT_OTHER_LENGTH, "no feed to close", 0);
 }
 
 int main(int count, char **words) {

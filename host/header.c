@@ -24,7 +24,7 @@ static void kinds(void) {
     check(RVT_TGAMMA == 1 && RVT_LGAMMA_R == 2 && RVT_ERF == 3 && RVT_ERFC == 4, "the kinds of f64");
     check(RVT_LGAMMAF_R == 17 && RVT_ERFF == 19 && RVT_ERFCF == 20, "the kinds of f32");
     check(RVT_DONE == 0 && RVT_UNKNOWN == 1 && RVT_CUT == 2 && RVT_FULL == 3, "the codes");
-    check(RVT_REPORT_LENGTH == 10 && RVT_FEED_LENGTH == 10, "the codes of another length");
+    check(RVT_OTHER_LENGTH == 10 && RVT_REPORT_LENGTH == 10, "the code of another length, by both names");
     check(RVT_VERSION == 10000 * RVT_VERSION_MAJOR + 100 * RVT_VERSION_MINOR + RVT_VERSION_PATCH, "the version");
     check(sizeof(struct rvt_report) == RVT_REPORT_BYTES, "the bytes of a report");
     check(sizeof(struct rvt_feed) == RVT_FEED_BYTES, "the bytes of a feed");

@@ -60,7 +60,7 @@ static void call(const struct plan *p, size_t room, size_t size, uint8_t fill) {
     put(told + 16, 8, d.number[WRITTEN]);
     lend(room, size, fill);
     uint64_t code = rvt_batch(requests, length, answers, room, report, size);
-    check(code == (good ? d.number[CODE] : RVT_REPORT_LENGTH), "code", room);
+    check(code == (good ? d.number[CODE] : RVT_OTHER_LENGTH), "code", room);
     look(p, room, size, fill, told, good ? d.number[WRITTEN] : 0, good ? sizeof told : 0);
 }
 
@@ -191,7 +191,7 @@ static void empty(void) {
     check(rvt_batch_code(one, 9, NULL, 0) == RVT_FULL, "no room", 0);
     check(rvt_batch(NULL, 0, NULL, 0, told, sizeof told) == RVT_DONE, "nothing at all, and a report", 0);
     check(all(told, sizeof told, 0), "a report of nothing", 0);
-    check(rvt_batch(one, 9, out, 1, NULL, 0) == RVT_REPORT_LENGTH && out[0] == 7, "no report", 0);
+    check(rvt_batch(one, 9, out, 1, NULL, 0) == RVT_OTHER_LENGTH && out[0] == 7, "no report", 0);
 }
 
 /* The longest request and answer of the header are those of the table. */

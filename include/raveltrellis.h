@@ -92,13 +92,15 @@ enum rvt_kind {
 
 /* The codes that a call stops with. */
 enum rvt_stop {
-    RVT_DONE = 0,           /* the requests, or the piece, are used up */
-    RVT_UNKNOWN = 1,        /* the kind at the front is not in the table */
-    RVT_CUT = 2,            /* the kind is known, and its body is incomplete */
-    RVT_FULL = 3,           /* the record is whole, and its answer is longer than the room left */
-    RVT_REPORT_LENGTH = 10, /* the report has another length than RVT_REPORT_BYTES: nothing is touched */
-    RVT_FEED_LENGTH = 10    /* the feed has another length than RVT_FEED_BYTES: nothing is touched */
+    RVT_DONE = 0,         /* the requests, or the piece, are used up */
+    RVT_UNKNOWN = 1,      /* the kind at the front is not in the table */
+    RVT_CUT = 2,          /* the kind is known, and its body is incomplete */
+    RVT_FULL = 3,         /* the record is whole, and its answer is longer than the room left */
+    RVT_OTHER_LENGTH = 10 /* the report, or the feed, has another length than its bytes: nothing is touched */
 };
+
+/* The name that version 1.0 had for the last of them. */
+#define RVT_REPORT_LENGTH RVT_OTHER_LENGTH
 
 /* What a batch did: the records answered, the bytes read and the bytes written. */
 struct rvt_report {
@@ -127,10 +129,10 @@ uint64_t rvt_batch_written(const uint8_t *requests, size_t requests_length, uint
 /*
  * A feed answers a stream that comes in pieces of any size, each record as soon as its last byte is
  * there. It is RVT_FEED_BYTES bytes that the host keeps from call to call, all zero to begin with, and
- * holds at most the start of one record: 16 bytes of state, and then, of the last call, how many bytes
- * of the piece it took and how many it wrote, eight bytes each, the lowest byte first. These two are not
- * looked at. A state that no call has left is answered too: as one that has stopped, where it holds no
- * start of a record.
+ * holds at most the start of one record: 16 bytes of state, which are zero whenever the feed is empty, and
+ * then, of the last call, how many bytes of the piece it took and how many it wrote, eight bytes each, the
+ * lowest byte first. These two are not looked at. A state that no call has left is answered too: as that of
+ * a feed that has stopped, where the bytes held are no start of a record.
  *
  * Take a piece: the answers stand at the front of the answer buffer, and the bytes behind them stay as
  * they were. The result is the code.
@@ -139,14 +141,16 @@ uint64_t rvt_batch_written(const uint8_t *requests, size_t requests_length, uint
  *                nothing, writes nothing, and gives this code to every call
  *   RVT_FULL     the next byte is the last of a record, whose answer is longer than the room left. It is
  *                not taken: send the answers, and offer the rest of the piece again
- * With room for RVT_LONGEST_ANSWER a call takes a byte at least, or stops on an unknown kind.
+ * With room for RVT_LONGEST_ANSWER a call on a piece that is not empty takes a byte at least, or stops on
+ * an unknown kind.
  */
 uint64_t rvt_feed_push(uint8_t *feed, size_t feed_length, const uint8_t *piece, size_t piece_length,
                        uint8_t *answers, size_t answers_length);
 
 /*
  * Close the feed, where nothing more is to come: RVT_DONE, or RVT_CUT where a record has begun, and the
- * feed is empty again, all of its bytes zero; RVT_UNKNOWN where it has stopped, and it stays so.
+ * feed is as before the first call, all of its bytes zero; RVT_UNKNOWN where it has stopped: it stays so,
+ * its counts are 0, and a state that no call has left becomes that of a feed that has stopped.
  */
 uint64_t rvt_feed_close(uint8_t *feed, size_t feed_length);
 
@@ -176,7 +180,7 @@ static inline uint64_t rvt_batch_run(const uint8_t *requests, size_t requests_le
     return code;
 }
 
-/* A feed as a struct; all zero is an empty one. */
+/* A feed as a struct, all zero to begin with. */
 struct rvt_feed {
     uint8_t state[16];
     uint64_t taken, written;
