@@ -63,28 +63,113 @@ static void batch(void) {
     check(rvt_number(answers + 1) == 0x3FF0000000000000, "its answer");
 }
 
-/* The state of a feed: so many bytes held, with the kind at the front. */
-static int state(const struct rvt_feed *feed, uint8_t kind, uint64_t held) {
-    return feed->state[0] == kind && rvt_number(feed->state + 8) == held;
+/* ---- the feed */
+
+/* A record of erf, one of lgamma_r, and a byte that is no kind. The arguments' bytes are all different, and
+ * none of them is zero: one that is lost shows. */
+static const uint8_t ERF[] = {RVT_ERF, 0x87, 0x96, 0xA5, 0xB4, 0xC3, 0xD2, 0xE1, 0x3F};
+static const uint8_t LGAMMA_R[] = {RVT_LGAMMA_R, 0xDE, 0xBC, 0x9A, 0x78, 0x56, 0x34, 0x12, 0xC0, 0};
+static const uint64_t ERF_OF = 0x3FE1D2C3B4A59687, LGAMMA_R_OF = 0xC0123456789ABCDE;
+enum { REQUEST = RVT_LONGEST_REQUEST, ERF_ANSWER = 9, LGAMMA_R_ANSWER = 10 };
+
+/* Their answers are those of the functions' own entries. */
+static int answers_erf(const uint8_t *answer) {
+    return answer[0] == RVT_ERF + 128 && rvt_number(answer + 1) == rvt_erf(ERF_OF);
 }
 
+static int answers_lgamma_r(const uint8_t *answer) {
+    return answer[0] == RVT_LGAMMA_R + 128 && rvt_number(answer + 1) == rvt_lgamma_r_value(LGAMMA_R_OF) &&
+           answer[9] == (rvt_lgamma_r_sign(LGAMMA_R_OF) == 1 ? 1 : 255);
+}
+
+/* All bytes of a feed's state: so many of a record, zeros behind them, and a number. */
+static int state(const struct rvt_feed *one, const uint8_t *record, size_t held, uint8_t number) {
+    uint8_t wanted[16] = {0};
+    memcpy(wanted, record, held);
+    wanted[8] = number;
+    return memcmp(one->state, wanted, sizeof wanted) == 0;
+}
+
+static int holds(const struct rvt_feed *one, const uint8_t *record, uint8_t held) {
+    return state(one, record, held, held);
+}
+
+static int empty(const struct rvt_feed *one) { return state(one, ERF, 0, 0); }
+static int stopped(const struct rvt_feed *one) { return state(one, ERF, 0, 9); }
+
+static int counts(const struct rvt_feed *one, uint64_t taken, uint64_t written) {
+    return one->taken == taken && one->written == written;
+}
+
+static void numbers(void) {
+    check(rvt_number(ERF + 1) == ERF_OF, "the number of eight bytes");
+    check(rvt_number(LGAMMA_R + 1) == LGAMMA_R_OF, "the number of eight other bytes");
+}
+
+/* Both records, with no room too much: each is held in part, and answered with its own bytes. */
 static void feed(void) {
-    const uint8_t requests[] = {RVT_ERF, 0, 0, 0, 0, 0, 0, 0x18, 0x40, RVT_LGAMMA_R, 0, 0, 0, 0, 0, 0, 0xF0, 0x3F, 0};
-    uint8_t answers[2 * RVT_LONGEST_ANSWER];
+    uint8_t answers[RVT_LONGEST_ANSWER], rest[REQUEST + 3];
+    struct rvt_feed one = {{0}, 7, 7};
+    memcpy(rest, ERF + 6, 3);
+    memcpy(rest + 3, LGAMMA_R, REQUEST);
+    check(rvt_feed_take(&one, ERF, 6, answers, 0) == RVT_DONE, "the start of a record");
+    check(counts(&one, 6, 0) && holds(&one, ERF, 6), "it is held");
+    check(rvt_feed_take(&one, rest, sizeof rest, answers, ERF_ANSWER) == RVT_FULL, "the very room of one record");
+    check(counts(&one, 11, ERF_ANSWER) && holds(&one, LGAMMA_R, 8), "the other is held but for a byte");
+    check(answers_erf(answers), "the answer");
+    check(rvt_feed_take(&one, NULL, 0, NULL, 0) == RVT_DONE, "an empty piece");
+    check(counts(&one, 0, 0) && holds(&one, LGAMMA_R, 8), "it changes nothing");
+    check(rvt_feed_take(&one, LGAMMA_R + 8, 2, answers, LGAMMA_R_ANSWER - 1) == RVT_FULL, "a byte too little room");
+    check(counts(&one, 0, 0) && holds(&one, LGAMMA_R, 8), "it changes nothing either");
+    check(rvt_feed_take(&one, LGAMMA_R + 8, 2, answers, LGAMMA_R_ANSWER) == RVT_UNKNOWN, "no kind behind them");
+    check(counts(&one, 1, LGAMMA_R_ANSWER) && stopped(&one), "the feed has stopped");
+    check(answers_lgamma_r(answers), "the other answer");
+    check(rvt_feed_take(&one, ERF, sizeof ERF, answers, sizeof answers) == RVT_UNKNOWN, "it says so");
+    check(counts(&one, 0, 0) && stopped(&one), "and stays so");
+}
+
+/* A copy that is closed is empty, and the other goes on. One that has stopped stays so. */
+static void closed(void) {
+    uint8_t answers[RVT_LONGEST_ANSWER];
     struct rvt_feed one = {{0}, 7, 7}, other;
-    check(rvt_feed_take(&one, requests, 4, answers, 0) == RVT_DONE, "the start of a record");
-    check(one.taken == 4 && one.written == 0 && state(&one, RVT_ERF, 4), "it is held");
+    check(rvt_feed_take(&one, LGAMMA_R, 5, answers, 0) == RVT_DONE, "a record that has begun");
     other = one;
-    check(rvt_feed_end(&other) == RVT_CUT && other.taken == 0 && state(&other, 0, 0), "a copy is closed");
-    check(rvt_feed_end(&other) == RVT_DONE, "and is empty");
-    check(rvt_feed_take(&one, requests + 4, 14, answers, 18) == RVT_FULL, "room for one record");
-    check(one.taken == 13 && one.written == 9 && state(&one, RVT_LGAMMA_R, 8), "the other is held but for a byte");
-    check(rvt_number(answers + 1) == 0x3FF0000000000000, "the answer");
-    check(rvt_feed_take(&one, requests + 17, 2, answers, sizeof answers) == RVT_UNKNOWN, "no kind behind them");
-    check(one.taken == 1 && one.written == 10 && state(&one, 0, 9), "the feed has stopped");
-    check(answers[0] == RVT_LGAMMA_R + 128 && answers[9] == 1, "the other answer");
-    check(rvt_feed_end(&one) == RVT_UNKNOWN && one.taken == 0 && one.written == 0 && state(&one, 0, 9), "it stays so");
-    check(rvt_feed_take(&one, NULL, 0, NULL, 0) == RVT_UNKNOWN, "and says so");
+    one.written = 7;
+    check(rvt_feed_end(&one) == RVT_CUT && counts(&one, 0, 0) && empty(&one), "it is closed");
+    one.taken = 7;
+    check(rvt_feed_end(&one) == RVT_DONE && counts(&one, 0, 0) && empty(&one), "and once more");
+    check(rvt_feed_take(&other, LGAMMA_R + 5, 5, answers, sizeof answers) == RVT_UNKNOWN, "the copy goes on");
+    check(counts(&other, 4, LGAMMA_R_ANSWER) && answers_lgamma_r(answers), "to the same answer");
+    check(rvt_feed_end(&other) == RVT_UNKNOWN && counts(&other, 0, 0) && stopped(&other), "the copy is closed");
+}
+
+/* No start of a record, by each of the number's higher bytes in turn. */
+static void made_up(void) {
+    for (int i = 9; i < 16; i++) {
+        struct rvt_feed one = {{RVT_ERF, 0, 0, 0, 0, 0, 0, 0, 1}, 7, 7}, other;
+        one.state[i] = 1;
+        other = one;
+        check(rvt_feed_take(&one, NULL, 0, NULL, 0) == RVT_UNKNOWN && stopped(&one), "a made-up feed");
+        check(rvt_feed_end(&other) == RVT_UNKNOWN && stopped(&other), "a made-up feed is closed");
+    }
+}
+
+/* So many that none of the numbers is a byte's, with the very room. */
+static void many(void) {
+    enum { COUNT = 300 };
+    static uint8_t requests[COUNT * REQUEST], answers[COUNT * LGAMMA_R_ANSWER];
+    struct rvt_report report;
+    struct rvt_feed one = {{0}, 0, 0};
+    for (size_t i = 0; i < COUNT; i++)
+        memcpy(requests + i * REQUEST, LGAMMA_R, REQUEST);
+    check(rvt_batch_run(requests, sizeof requests, answers, sizeof answers, &report) == RVT_DONE, "many records");
+    check(report.records == COUNT, "how many");
+    check(report.read == sizeof requests && report.written == sizeof answers, "the rest of their report");
+    memset(answers, 0, sizeof answers);
+    check(rvt_feed_take(&one, requests, sizeof requests, answers, sizeof answers) == RVT_DONE, "many in a piece");
+    check(counts(&one, sizeof requests, sizeof answers) && empty(&one), "nothing is left of it");
+    check(answers_lgamma_r(answers), "the first answer");
+    check(answers_lgamma_r(answers + sizeof answers - LGAMMA_R_ANSWER), "the last answer");
 }
 
 int main(void) {
@@ -92,6 +177,10 @@ int main(void) {
     doubles();
     floats();
     batch();
+    numbers();
     feed();
+    closed();
+    made_up();
+    many();
     return failures != 0;
 }
