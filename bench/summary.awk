@@ -1,5 +1,5 @@
 # summary.awk: lines RUN WHAT LIBRARY NUMBER to lines WHAT LIBRARY MEDIAN and WHAT ratio LEAST MEDIAN MOST, of the port to the Rust, or of
-# the feed to the batch, run by run.
+# the feed to the batch, run by run. The ratios have two places, or as many as `places` says.
 function add(what, column, number) {
     if (!((what, column) in many)) many[what, column] = 0
     list[what, column, ++many[what, column]] = number
@@ -18,10 +18,12 @@ function median(n) { return n % 2 ? one[(n + 1) / 2] : (one[n / 2] + one[n / 2 +
     if ($3 == "Rust" || $3 == "batch") add($2, "ratio", ours[$1, $2] / $4)
 }
 END {
+    if (places == "") places = 2
+    ratio = "%." places "f"
     libraries = split("port Rust glibc musl feed batch", library, " ")
     for (i = 1; i <= count; i++) {
         for (l = 1; l <= libraries; l++) if ((names[i], library[l]) in many) { n = sorted(names[i], library[l]); printf "%s %s %.1f\n", names[i], library[l], median(n) }
         n = sorted(names[i], "ratio")
-        printf "%s ratio %.2f %.2f %.2f\n", names[i], one[1], median(n), one[n]
+        if (n > 0) printf "%s ratio " ratio " " ratio " " ratio "\n", names[i], one[1], median(n), one[n]
     }
 }
