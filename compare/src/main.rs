@@ -87,14 +87,7 @@ fn run(words: &[&str]) -> io::Result<u8> {
         }
         ["stored"] => stored::compare(),
         ["constants", libm @ ..] => compare_constants(libm),
-        ["sample", seed, requests, answers] => {
-            let list = sample::requests(number(seed)?);
-            std::fs::write(requests, list.concat())?;
-            let replies: Vec<_> = list.iter().map(|r| leaves::answer_bytes(r)).collect();
-            std::fs::write(answers, replies.concat())?;
-            eprintln!("{} requests", list.len());
-            Ok(0)
-        }
+        ["sample", seed, requests, answers] => write_sample(number(seed)?, requests, answers),
         ["requests", seed, count] => {
             let random = &mut Random::at(number(seed)?, 0);
             io::stdout().write_all(&Streams::new().random(random, number(count)?))?;
@@ -133,6 +126,15 @@ fn input() -> io::Result<Vec<u8>> {
     let mut bytes = Vec::new();
     io::stdin().read_to_end(&mut bytes)?;
     Ok(bytes)
+}
+
+fn write_sample(seed: u64, requests: &str, answers: &str) -> io::Result<u8> {
+    let list = sample::requests(seed);
+    std::fs::write(requests, list.concat())?;
+    let replies: Vec<_> = list.iter().map(|r| leaves::answer_bytes(r)).collect();
+    std::fs::write(answers, replies.concat())?;
+    eprintln!("{} requests", list.len());
+    Ok(0)
 }
 
 /// Asks a leaf `total` questions, which `question` makes from their places, and says each place.
