@@ -76,12 +76,11 @@ fn fresh(piece: &[u8], answers: &mut [u8]) -> Fed
     let t = batch(piece, answers);
     let n = t.tally;
     let read = n.read;
-    let written = n.written;
     if t.code == UNKNOWN {
         return Fed {
             feed: stopped(),
             taken: read,
-            written,
+            written: n.written,
             code: UNKNOWN,
         };
     }
@@ -89,7 +88,7 @@ fn fresh(piece: &[u8], answers: &mut [u8]) -> Fed
         return Fed {
             feed: holding(piece, read, piece.len() - read),
             taken: piece.len(),
-            written,
+            written: n.written,
             code: DONE,
         };
     }
@@ -99,14 +98,14 @@ fn fresh(piece: &[u8], answers: &mut [u8]) -> Fed
         return Fed {
             feed: holding(piece, read, width),
             taken,
-            written,
+            written: n.written,
             code: FULL,
         };
     }
     Fed {
         feed: Feed::empty(),
         taken: read,
-        written,
+        written: n.written,
         code: DONE,
     }
 }
