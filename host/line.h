@@ -194,6 +194,8 @@ static void become(int error, const struct speed *speed) {
     }
     snprintf(name, sizeof name, "%s", ptsname(host.line));
     command[n] = name;
+    /* whatever the test was started by */
+    signal(SIGHUP, SIG_DFL);
     dup2(error, STDERR_FILENO);
     close(error);
     close(host.said);

@@ -125,12 +125,14 @@ static void late(const struct stream *s, size_t count) {
     kill(host.id, SIGCONT);
     struct told t = finish();
     check(count == 1 || t.taken < count, "the signal is minded too late");
+    check(t.unsent == 0, "answers are kept back on a line that takes them");
     look(t, cause(SIGTERM), verdict(s, t.taken));
 }
 
 /* A hang-up and a signal in the first record of each kind: behind its kind, before its last byte, and
  * behind that. */
 static void every_kind(const struct stream *s) {
+    static const int ENDERS[] = {SIGTERM, SIGINT, SIGHUP};
     for (size_t i = 0; i < KIND_COUNT; i++) {
         const struct kind *k = &KINDS[i];
         size_t at = 0;
@@ -141,7 +143,7 @@ static void every_kind(const struct stream *s) {
         const size_t counts[] = {at + 1, at + k->asks - 1, at + k->asks};
         for (size_t n = 0; n < 3; n++) {
             play("a hang-up", s, counts[n], at_once, 0);
-            play("a signal", s, counts[n], at_once, (i + n) % 2 == 0 ? SIGTERM : SIGINT);
+            play("a signal", s, counts[n], at_once, ENDERS[(i + n) % 3]);
         }
     }
 }

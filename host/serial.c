@@ -1,7 +1,7 @@
 /*
  * serial [-s SPEED] DEVICE: answers the requests that come over a serial line, over the same line, as the
- * gateway's host does: a feed, two fixed buffers, and nothing grows. A hang-up, an unknown kind, SIGINT or
- * SIGTERM ends it. What stopped it, and the counts, go to standard error.
+ * gateway's host does: a feed, two fixed buffers, and nothing grows. A hang-up, an unknown kind, SIGINT,
+ * SIGTERM or SIGHUP ends it. What stopped it, and the counts, go to standard error.
  *
  * Its status is 0 where every request is answered, 1 where a code stopped it, and 2 where the device
  * failed, answers could not be sent, or the command is another.
@@ -51,12 +51,17 @@ static volatile sig_atomic_t asked;
 static void ask(int number) { asked = number; }
 
 static void catch_signals(void) {
+    struct sigaction was;
     sigemptyset(&enders);
     sigaddset(&enders, SIGINT);
     sigaddset(&enders, SIGTERM);
+    sigaddset(&enders, SIGHUP);
     struct sigaction on = {.sa_handler = ask, .sa_mask = enders};
     sigaction(SIGINT, &on, NULL);
     sigaction(SIGTERM, &on, NULL);
+    /* one that is to outlive its session, by nohup, does */
+    if (sigaction(SIGHUP, NULL, &was) == 0 && was.sa_handler != SIG_IGN)
+        sigaction(SIGHUP, &on, NULL);
     /* an error output that nobody reads is no signal to end by */
     signal(SIGPIPE, SIG_IGN);
 }
@@ -159,6 +164,18 @@ static void put_back(const struct line *l, const struct termios *before) {
         perror("serial: the settings are not put back");
 }
 
+/* Opens the line, and waits for no carrier. The standard streams that are closed are opened to nowhere first:
+ * the line must not become the place for words. */
+static int open_line(const char *name) {
+    int taken;
+    do
+        taken = open("/dev/null", O_RDWR);
+    while (taken >= 0 && taken <= STDERR_FILENO);
+    if (taken > STDERR_FILENO)
+        close(taken);
+    return open(name, O_RDWR | O_NOCTTY | O_NONBLOCK);
+}
+
 static const struct speed *speed_of(const char *name) {
     for (const struct speed *s = speeds; s->name != NULL; s++)
         if (strcmp(s->name, name) == 0)
@@ -182,18 +199,19 @@ int main(int count, char **words) {
             return usage();
     if (count - optind != 1)
         return usage();
-    /* it waits for no carrier; and a descriptor that no wait takes counts as one too many */
-    errno = EMFILE;
-    l.device = open(words[optind], O_RDWR | O_NOCTTY | O_NONBLOCK);
-    if (l.device < 0 || tcgetattr(l.device, &before) < 0 || l.device >= FD_SETSIZE) {
+    l.device = open_line(words[optind]);
+    /* a descriptor that no wait takes counts as one too many */
+    if (l.device >= FD_SETSIZE)
+        errno = EMFILE;
+    if (l.device < 0 || l.device >= FD_SETSIZE || tcgetattr(l.device, &before) < 0) {
         fprintf(stderr, "serial: %s: %s\n", words[optind], errno == ENOTTY ? "no terminal" : strerror(errno));
         return FAILED;
     }
     catch_signals();
     const char *ended = set_raw(l.device, before, speed) ? serve(&l) : SETTINGS;
     uint64_t code = rvt_feed_end(&l.feed);
-    put_back(&l, &before);
     fprintf(stderr, "stopped: %s%s (code %d), %" PRIu64 " bytes taken, %" PRIu64 " bytes sent, %" PRIu64 " not sent\n",
             ended, reasons[code], (int)code, l.taken, l.sent, l.unsent);
+    put_back(&l, &before);
     return ended == FAILURE || ended == SETTINGS || l.unsent > 0 ? FAILED : code == RVT_DONE ? DONE : STOPPED;
 }
