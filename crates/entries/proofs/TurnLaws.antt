@@ -13,6 +13,7 @@ use Rattle.feeding.specs.Feed.{State, Open, Stopped, Call, call, close}
 use Rattle.feeding.specs.Host.{Offer, Roomy}
 use Rattle.feeding.specs.Promises.{Good}
 use Rattle.feeding.proofs.TakeLaws.{begun-none}
+use Rattle.feeding.proofs.HostLaws.{length-take-in}
 use Rattle.feeding.proofs.Promised.{within}
 use Rattle.feed.specs.Fields.{meant, fields}
 use Rattle.feed.specs.Post.{pushS, closeS}
@@ -94,9 +95,6 @@ module _ (f : State) (t w : ℕ) (p a : List ℕ) (g : Good table f) (b : Held f
   front =
       let l : 0 + length (c .bytes) ≤ length a = omega (arith, within table f p (length a) g .1 .0) in
       ap (take (length (c .bytes))) (sets-eq (c .bytes) a 0 l) ∙ take-at (c .bytes) (drop (0 + length (c .bytes)) a) (length (c .bytes)) refl
-
-length-take-in : (n : ℕ) (s : List ℕ) → length (take n s) ≤ length s
-length-take-in n s = omega (arith, ap length (take-append-drop n s), length-append (take n s) (drop n s))
 
 -- ---- calls in turn
 

@@ -3,7 +3,7 @@ use mathlib.Core.Path.{_≡_, refl, sym, ap, _∙_}
 use mathlib.Core.Bool.{true, false}
 use mathlib.Core.List.{List, [], _∷_, _++_, append-nil}
 use mathlib.Core.Logic.{_⊎_, ⊎-elim}
-use Prim.Native.Nat.{ℕ, zero, suc, _+_, _-_, _/_, _%_, _≤_, _<_}
+use Prim.Native.Nat.{ℕ, suc, _+_, _-_, _/_, _%_, _≤_, _<_}
 use native.Mathlib.Omega.{arith}
 use borrow.Author.Tests.{lt-ltb, le-ltb}
 use lib.ListN.{length, take, drop, length-append, length-drop}
@@ -42,10 +42,6 @@ meant-stopped f h = rw (lt-ltb 8 (f .length) h)
 pub meant-none : (f : Feed) → f .length ≡ 0 → meant f ≡ Open []
 unfolding digits
 meant-none f e = meant-open f (omega arith) ∙ ap (λ (n : ℕ). Open (digits n (f .held))) e
-
-pub some : (n : ℕ) → (n ≡ 0 → ⊥) → 0 < n
-some zero z = absurd (z refl)
-some (suc n) z = omega arith
 
 -- where some bytes are held: the kind, and a part of its body
 module _ (T : List Row) (x n : ℕ) (held : 0 < n) where

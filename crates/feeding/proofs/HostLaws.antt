@@ -138,7 +138,7 @@ fewer T L a f (b ∷ s) (suc n) room k l h =
     let d = length-drop (c .taken) (b ∷ s) in
     ⊎-elim (λ (i : 0 < c .taken). inl (omega arith)) (λ (i : c ≡ ends Stopped UNKNOWN). inr (ap (λ (y : Call). y .feed) i)) (progress T L a f b (take n s) room l)
 
-length-take-in : (n : ℕ) (s : List ℕ) → length (take n s) ≤ length s
+pub length-take-in : (n : ℕ) (s : List ℕ) → length (take n s) ≤ length s
 length-take-in n s = omega (arith, ap length (take-append-drop n s), length-append (take n s) (drop n s))
 
 -- Where each call has room for the longest answer, as many calls that offer a byte as the stream has bytes are enough.

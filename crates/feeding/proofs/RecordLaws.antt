@@ -205,11 +205,7 @@ module _ (T : List Row) (k : ℕ) (s : List ℕ) (room : ℕ) (known : rowIn T k
 
   one-byte : takes T [] (k ∷ s) room ≡ goes 1 [] (takes T (k ∷ []) s room)
   unfolding begun
-  one-byte = takes-start T [] (k ∷ []) s room (lt-ltb 0 v (positive v known))
-    where
-      positive : (n : ℕ) → (n ≡ 0 → ⊥) → 0 < n
-      positive zero z = absurd (z refl)
-      positive (suc n) z = omega arith
+  one-byte = takes-start T [] (k ∷ []) s room (lt-ltb 0 v (omega (arith, known)))
 
   record-full : room < length (bytesOf (rowIn T k .reply (word v s))) → takes T [] (k ∷ s) room ≡ goes v [] (ends (Open (take v (k ∷ s))) FULL)
   record-full f =

@@ -14,7 +14,7 @@ use Rattle.replies.proofs.TableLaws.{row-width, width-small}
 use Rattle.feed.specs.Fields.{meant, fields}
 use Rattle.feed.specs.Post.{Shut}
 use Rattle.feed.specs.declared.Closed.{Closed}
-use Rattle.feed.proofs.FieldLaws.{some, meant-open, meant-none, held-is, held-begun, held-stopped}
+use Rattle.feed.proofs.FieldLaws.{meant-open, meant-none, held-is, held-begun, held-stopped}
 use Rattle.feed.proofs.Feed.close.Statement.{statement}
 use Rattle.feed.proofs.Feed.close.Tie as tie
 
@@ -44,7 +44,7 @@ returns-2 c =
     let b = c .before .before in
     let f = b .before .before .before .args .self in
     shut (close table (meant f)) _ _
-    (held-stopped table f (some (f .length) (b .before .before .if1 .left)) (omega (arith, b .body .ensures, row-width (f .held % 256), c .before .if2 .taken)) .1) (c .stopped .ensures) refl
+    (held-stopped table f (omega (arith, b .before .before .if1 .left)) (omega (arith, b .body .ensures, row-width (f .held % 256), c .before .if2 .taken)) .1) (c .stopped .ensures) refl
 
 empty-requires-2 : tie.Need-empty-requires-2
 empty-requires-2 c κs = search needs
@@ -53,7 +53,7 @@ returns-3 : tie.Need-returns-3
 returns-3 c =
     let b = c .before .before in
     let f = b .before .before .before .args .self in
-    let z = some (f .length) (b .before .before .if1 .left) in
+    let z : 0 < f .length = omega (arith, b .before .before .if1 .left) in
     let w : f .length ≤ rowIn table (f .held % 256) .width = omega (arith, b .body .ensures, row-width (f .held % 256)) in
     let h = digits (f .length) (f .held) in
     shut (close table (meant f)) (record { feed = Open []; code = 2 }) _

@@ -16,7 +16,7 @@ use Rattle.replies.proofs.TableLaws.{row-width, width-small}
 use Rattle.feed.specs.declared.Feed.{Feed}
 use Rattle.feed.specs.Fields.{fields, meant}
 use Rattle.feed.specs.Post.{Pushed}
-use Rattle.feed.proofs.FieldLaws.{some, meant-none, opened, held-short, held-stopped}
+use Rattle.feed.proofs.FieldLaws.{meant-none, opened, held-short, held-stopped}
 use Rattle.feed.proofs.RestLaws.{pushed}
 use Rattle.feed.proofs.Feed.push.Statement.{statement}
 use Rattle.feed.proofs.Feed.push.Tie as tie
@@ -36,7 +36,7 @@ module _ (b : tie.After-body) where
   answers = start .args .answers .now
 
   held : 0 < self .length
-  held = some (self .length) (b .before .if1 .left)
+  held = omega (arith, b .before .if1 .left)
 
   width-is : b .body .result ≡ rowIn table (self .held % 256) .width
   width-is = b .body .ensures ∙ sym (row-width (self .held % 256))
