@@ -1,9 +1,10 @@
-//! What the Rust answers to a question to a single leaf: libm's functions, the language's casts, and
-//! Horner's rule written out. A NaN has one pattern, as an argument and as an answer.
+//! What the Rust answers to a question to a single leaf: libm's functions, the language's casts, Horner's
+//! rule written out, and the distance of two floats. A NaN has one pattern, as an argument and as an answer.
 
 // The constants have the digits of the Rust.
 #![allow(clippy::excessive_precision)]
 
+use crate::distance;
 use crate::patterns::Width;
 
 pub const NAN: u64 = 0x7ff8_0000_0000_0000;
@@ -51,6 +52,8 @@ pub enum Second {
     Double,
     /// An f64, of the pairs of `powers`.
     Power,
+    /// A float of the same width, of the pairs of `distance`.
+    Beside,
 }
 
 const fn leaf(number: u64, name: &'static str, width: Width) -> Leaf {
@@ -59,6 +62,7 @@ const fn leaf(number: u64, name: &'static str, width: Width) -> Leaf {
         40 | 64 => Second::Exponent,
         67 | 69 => Second::Double,
         71 => Second::Power,
+        96..=99 => Second::Beside,
         _ => Second::Nothing,
     };
     Leaf {
@@ -69,7 +73,7 @@ const fn leaf(number: u64, name: &'static str, width: Width) -> Leaf {
     }
 }
 
-pub const LEAVES: [Leaf; 45] = [
+pub const LEAVES: [Leaf; 49] = [
     leaf(1, "fabs", Width::Double),
     leaf(2, "floor", Width::Double),
     leaf(3, "whole", Width::Double),
@@ -115,7 +119,30 @@ pub const LEAVES: [Leaf; 45] = [
     leaf(82, "lgamma_r, value", Width::Double),
     leaf(83, "lgamma_r, sign", Width::Double),
     leaf(84, "tgamma", Width::Double),
+    leaf(96, "distance", Width::Double),
+    leaf(97, "distance, code", Width::Double),
+    leaf(98, "distance_f32", Width::Single),
+    leaf(99, "distance_f32, code", Width::Single),
 ];
+
+/// The width of the float that a leaf answers; none where its answer is another number. The value of
+/// lgammaf_r is the low half of its answer.
+fn value_width(leaf: u64) -> Option<Width> {
+    match leaf {
+        1 | 2 | 9 | 10 | 16..=20 | 64..=71 | 80..=82 | 84 => Some(Width::Double),
+        4 | 33 | 34 | 38..=43 | 48..=51 | 72 | 73 => Some(Width::Single),
+        _ => None,
+    }
+}
+
+/// How two differing answers of a leaf differ, in words.
+pub fn told(leaf: u64, port: u64, rust: u64) -> String {
+    match value_width(leaf) {
+        Some(Width::Single) if port >> 32 != rust >> 32 => ", another sign".to_string(),
+        Some(width) => format!(", {}", distance::told(width, port, rust)),
+        None => String::new(),
+    }
+}
 
 // erf.rs
 const PP0: f64 = 1.28379167095512558561e-01;
@@ -249,6 +276,10 @@ fn answer_single(leaf: u64, x: f32, b: u64) -> u64 {
 pub fn answer(leaf: u64, a: u64, b: u64) -> u64 {
     match leaf {
         32..=63 => answer_single(leaf, f32::from_bits(a as u32), b),
+        96 => distance::answer(Width::Double, a, b).0,
+        97 => distance::answer(Width::Double, a, b).1,
+        98 => distance::answer(Width::Single, a, b).0,
+        99 => distance::answer(Width::Single, a, b).1,
         _ => answer_double(leaf, f64::from_bits(a), b),
     }
 }
@@ -310,7 +341,7 @@ mod tests {
 
     #[test]
     fn an_unknown_number_is_all_ones() {
-        for number in 0..100 {
+        for number in 0..130 {
             let known = LEAVES.iter().any(|l| l.number == number);
             assert_eq!(answer(number, 0, 0) == UNKNOWN, !known);
         }

@@ -3,6 +3,7 @@
 
 mod constants;
 mod cuts;
+mod distance;
 mod exhaustive;
 #[cfg(any(feature = "linked", test))]
 mod feed;
@@ -22,6 +23,7 @@ mod stream;
 mod tally;
 mod traffic;
 
+use distance::Pairs;
 use leaves::{Leaf, Second, LEAVES};
 use patterns::{Patterns, Width};
 use port::{failure, Program};
@@ -156,7 +158,8 @@ fn ask_leaf(
         let want = leaves::answer(number, a, b);
         tally.count(got == want, || {
             let name = leaf.name;
-            format!("leaf {number}, {name}: a {a:#x}, b {b:#x}: port {got:#x}, Rust {want:#x}")
+            let told = leaves::told(number, got, want);
+            format!("leaf {number}, {name}: a {a:#x}, b {b:#x}: port {got:#x}, Rust {want:#x}{told}")
         });
         at(place);
     };
@@ -186,6 +189,13 @@ fn compare_leaves(seed: u64, count: u64, program: &Program) -> io::Result<u8> {
         if let Second::Power = leaf.second {
             let question = |place| powers.pair(place, &mut Random::at(seed, place));
             let total = powers.systematic() + count;
+            compare_leaf(leaf, total, question, program, &mut tally)?;
+            continue;
+        }
+        if let Second::Beside = leaf.second {
+            let pairs = Pairs::new(leaf.width);
+            let question = |place| pairs.pair(place, &mut Random::at(seed, place));
+            let total = pairs.systematic() + count;
             compare_leaf(leaf, total, question, program, &mut tally)?;
             continue;
         }

@@ -219,7 +219,7 @@ impl Patterns {
     /// times smaller than a.
     pub fn second(&self, second: Second, a: u64, random: &mut Random) -> u64 {
         match second {
-            Second::Nothing | Second::Power => 0,
+            Second::Nothing | Second::Power | Second::Beside => 0,
             Second::Word => random.word(),
             Second::Exponent => random.exponent(),
             Second::Double if random.below(2) == 0 => self.random(random),

@@ -1,5 +1,6 @@
 //! The fixed list of requests that the program `leaves` is replayed on.
 
+use crate::distance::Pairs;
 use crate::leaves::{request, Leaf, Second, LEAVES};
 use crate::patterns::{Patterns, Width};
 use crate::powers::Powers;
@@ -12,7 +13,7 @@ const RANDOM: usize = 40;
 const PAIRS: usize = 400;
 
 /// Requests to every leaf: the specials and random patterns to each, the neighbours of the cuts to
-/// the leaves that look at them, and numbers that are no leaf's.
+/// the leaves that look at them, every pair of the specials to the distances, and numbers that are no leaf's.
 pub fn requests(seed: u64) -> Vec<[u8; 24]> {
     let mut list = Vec::new();
     for leaf in &LEAVES {
@@ -22,6 +23,14 @@ pub fn requests(seed: u64) -> Vec<[u8; 24]> {
             let powers = Powers::new();
             list.extend((0..PAIRS).map(|_| {
                 let (a, b) = powers.random(&mut random);
+                request(leaf.number, a, b)
+            }));
+            continue;
+        }
+        if let Second::Beside = leaf.second {
+            let pairs = Pairs::new(leaf.width);
+            list.extend((0..pairs.systematic() + RANDOM as u64).map(|place| {
+                let (a, b) = pairs.pair(place, &mut random);
                 request(leaf.number, a, b)
             }));
             continue;
@@ -50,6 +59,8 @@ pub fn requests(seed: u64) -> Vec<[u8; 24]> {
         74,
         79,
         85,
+        95,
+        100,
         255,
         u64::MAX,
     ] {

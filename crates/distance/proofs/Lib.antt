@@ -1,3 +1,7 @@
--- Which return the distance is, over the format, and what the contracts determine.
-pub mod DistanceLaws
+-- The promises about the line of numbers, and what the contracts determine.
+pub mod Shift
+pub mod SpotLaws
+pub mod PlaceLaws
+pub mod LineLaws
+pub mod Promised
 pub mod Unique

@@ -1,2 +1,3 @@
--- What the distance of two answers is.
+-- What the distance of two floats is, and what it means on the line of numbers.
 pub mod Distance
+pub mod Line

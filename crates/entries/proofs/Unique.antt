@@ -7,6 +7,10 @@ use contract.Lifetimes.{Lfts}
 use denote.Ref.{now}
 use Rattle.records.specs.Run.{Out}
 use Rattle.entries.specs.Post.{Reported}
+use Rattle.entries.proofs.apart.rvt_distance.Reads as distance
+use Rattle.entries.proofs.apart.rvt_distance_code.Reads as distance-code
+use Rattle.entries.proofs.apart.rvt_distancef.Reads as distancef
+use Rattle.entries.proofs.apart.rvt_distancef_code.Reads as distancef-code
 use Rattle.entries.proofs.feed_bytes.rvt_feed_push.Reads as push
 use Rattle.entries.proofs.feed_bytes.rvt_feed_close.Reads as close
 use Rattle.entries.proofs.report.rvt_batch.Reads as batch
@@ -50,6 +54,18 @@ erff-determined κs a r r' s s' p q = p ∙ sym q
 
 pub erfcf-determined : (κs : Lfts 0) (a : _) (r r' : ℕ) (s s' : _) → erfcf.Post κs a r s → erfcf.Post κs a r' s' → r ≡ r'
 erfcf-determined κs a r r' s s' p q = p ∙ sym q
+
+pub distance-determined : (κs : Lfts 0) (a : _) (r r' : ℕ) (s s' : _) → distance.Post κs a r s → distance.Post κs a r' s' → r ≡ r'
+distance-determined κs a r r' s s' p q = p ∙ sym q
+
+pub distance-code-determined : (κs : Lfts 0) (a : _) (r r' : ℕ) (s s' : _) → distance-code.Post κs a r s → distance-code.Post κs a r' s' → r ≡ r'
+distance-code-determined κs a r r' s s' p q = p ∙ sym q
+
+pub distancef-determined : (κs : Lfts 0) (a : _) (r r' : ℕ) (s s' : _) → distancef.Post κs a r s → distancef.Post κs a r' s' → r ≡ r'
+distancef-determined κs a r r' s s' p q = p ∙ sym q
+
+pub distancef-code-determined : (κs : Lfts 0) (a : _) (r r' : ℕ) (s s' : _) → distancef-code.Post κs a r s → distancef-code.Post κs a r' s' → r ≡ r'
+distancef-code-determined κs a r r' s s' p q = p ∙ sym q
 
 -- the number, and every byte of the answer buffer
 same : (o : Out) (part : Out → ℕ) (r r' : ℕ) (a b b' : List ℕ) → Reported o part r a b → Reported o part r' a b' → (r ≡ r') × (b ≡ b')

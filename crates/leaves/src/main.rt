@@ -21,10 +21,13 @@
 // 80 erf           81 erfc
 // 82 lgamma_r's value  83 lgamma_r's sign
 // 84 tgamma
+// 96 distance(a, b), and 97 its code; 98 distance_f32(a, b), and 99 its code
 //
 // An argument or an answer of 32 bits is the low half of its u64, and an i32 is its two's complement.
 use digits::get;
 use digits::put;
+use distance::distance;
+use distance::distance_f32;
 use erf::erf;
 use erf::erfc;
 use erff::erfcf;
@@ -245,6 +248,16 @@ fn gamma_leaf(leaf: u64, x: f64) -> u64 {
     }
 }
 
+fn distance_leaf(leaf: u64, a: u64, b: u64) -> u64 {
+    match leaf {
+        96 => distance(a, b).distance,
+        97 => distance(a, b).code as u64,
+        98 => distance_f32(low_half(a), low_half(b)).distance,
+        99 => distance_f32(low_half(a), low_half(b)).code as u64,
+        _ => UNKNOWN,
+    }
+}
+
 fn low_half(x: u64) -> u32 {
     (x % 0x1_0000_0000) as u32
 }
@@ -286,7 +299,10 @@ fn answer(leaf: u64, a: u64, b: u64) -> u64 {
     if leaf < 82 {
         return error_leaf(leaf, of_bits(a));
     }
-    gamma_leaf(leaf, of_bits(a))
+    if leaf < 96 {
+        return gamma_leaf(leaf, of_bits(a));
+    }
+    distance_leaf(leaf, a, b)
 }
 
 // Answers request number i.

@@ -128,7 +128,7 @@ high-alone hi = ap (ofBits binary64) (add-zero (hi * 2 ^ 32))
 
 -- ---- the value of a pattern, in units of the format's smallest value
 -- the digits' field is the same with the sign bit and without
-digits-rest : (f : Format) (b : ℕ) → b % top f % hid f ≡ b % hid f
+pub digits-rest : (f : Format) (b : ℕ) → b % top f % hid f ≡ b % hid f
 digits-rest binary32 b = Pow.mod-mod-pow b 8 23
 digits-rest binary64 b = Pow.mod-mod-pow b 11 52
 

@@ -1,46 +1,27 @@
 -- `distance::distance_f32` meets its contract. Assumes nothing.
-use mathlib.Core.Path.{sym, ap, _∙_}
-use Prim.Native.Nat.{ℕ}
+use mathlib.Core.Path.{_∙_}
 use lib.Ieee.{binary32}
 use borrow.Author.Needs.{needs}
-use Rattle.distance.proofs.DistanceLaws.{first-nan, second-nan, no-nan}
+use Rattle.distance.proofs.SpotLaws.{by-spots}
 use Rattle.distance.proofs.distance_f32.Statement.{statement}
 use Rattle.distance.proofs.distance_f32.Tie as tie
 
-is-nan-f32-requires : tie.Need-is-nan-f32-requires
-is-nan-f32-requires c κs = search needs
+spot-of-f32-requires : tie.Need-spot-of-f32-requires
+spot-of-f32-requires c κs = search needs
 
-none-requires : tie.Need-none-requires
-none-requires c κs = search needs
+spot-of-f32-requires-2 : tie.Need-spot-of-f32-requires-2
+spot-of-f32-requires-2 c κs = search needs
+
+between-requires : tie.Need-between-requires
+between-requires c κs = search needs
 
 returns : tie.Need-returns
 returns c =
-    let t = c .before .before in
-    first-nan binary32 (t .before .args .a) (t .before .args .b) _ (sym (t .is-nan-f32 .ensures) ∙ c .before .if1 .taken) (c .none .ensures)
-
-is-nan-f32-requires-2 : tie.Need-is-nan-f32-requires-2
-is-nan-f32-requires-2 c κs = search needs
-
-none-requires-2 : tie.Need-none-requires-2
-none-requires-2 c κs = search needs
-
-returns-2 : tie.Need-returns-2
-returns-2 c =
-    let u = c .before .before in
-    let t = u .before .before in
-    second-nan binary32 (t .before .args .a) (t .before .args .b) _ (sym (t .is-nan-f32 .ensures) ∙ u .before .if1 .left) (sym (u .is-nan-f322 .ensures) ∙ c .before .if2 .taken) (c .none2 .ensures)
-
-gap-requires : tie.Need-gap-requires
-gap-requires c κs = search needs
-
-returns-3 : tie.Need-returns-3
-returns-3 c =
-    let u = c .before .before in
-    let t = u .before .before in
-    no-nan binary32 (t .before .args .a) (t .before .args .b) _ (sym (t .is-nan-f32 .ensures) ∙ u .before .if1 .left) (sym (u .is-nan-f322 .ensures) ∙ c .before .if2 .left)
-    (ap (λ (x : ℕ). record { code = 0; distance = x }) (c .gap .ensures))
+    let q = c .before in
+    let p = q .before in
+    c .between .ensures
+    ∙ by-spots binary32 (p .before .args .a) (p .before .args .b) 0x8000000000000000 _ _ _ _
+    (p .spot-of-f32 .ensures .0) (q .spot-of-f322 .ensures .0) (p .spot-of-f32 .ensures .1) (q .spot-of-f322 .ensures .1)
 
 pub distance-f32-spec : {M : Type 1} → statement M
-distance-f32-spec =
-    tie.close
-    (tie.spec is-nan-f32-requires none-requires returns is-nan-f32-requires-2 none-requires-2 returns-2 gap-requires returns-3)
+distance-f32-spec = tie.close (tie.spec spot-of-f32-requires spot-of-f32-requires-2 between-requires returns)

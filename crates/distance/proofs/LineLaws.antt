@@ -1,0 +1,129 @@
+-- Steps along the line, by ranks: the next number has the next rank, and n steps lead n ranks up. Assumes nothing.
+use mathlib.Core.Path.{_≡_, refl, sym, ap, _∙_, subst}
+use mathlib.Core.Bool.{Bool, true, false, true≢false}
+use Prim.Native.Nat.{ℕ, zero, suc, _+_, _-_, _*_, _%_, _≤_, _<_}
+use native.Mathlib.Nat.{mod-eq-of-lt, add-mod-left, lt-of-le-of-lt}
+use native.Mathlib.Omega.{arith}
+use borrow.Author.Tests.{ltb-true, ltb-false, lt-ltb, le-ltb, le-leb, lt-leb}
+use lib.Dec.{T, leb, ltb}
+use lib.Ieee.{Float, nan, inf, fin, Format, binary32, binary64, hid, ones, top, lt, fits, ofBits, toBits, isNan, nanBits}
+use lib.Ieee.Bits.{is-true, nanBits-above, nanBits-is, ofBits-fits, ofBits-toBits}
+use Rattle.rounding.proofs.BitOrder.{endless}
+use Rattle.words.specs.Pick.{pick}
+use Rattle.distance.specs.Line.{Number, Next, Steps}
+use Rattle.distance.proofs.PlaceLaws.{number-size, rank, lt-rank, rank-eq, eq-rank}
+
+module _ (f : Format) where
+  -- ---- a number at each rank
+  ends : endless f < top f
+  ends = go f
+    where
+      go : (f : Format) → endless f < top f
+      go binary32 = omega arith
+      go binary64 = omega arith
+
+  -- a number's rank is between the infinities'
+  within : (b : ℕ) → Number f b → (top f ≤ rank f b + endless f) × (rank f b ≤ top f + endless f)
+  within b B = go (leb (top f) b)
+    where
+      go : (s : Bool) → (top f ≤ pick s (top f - b % top f) (top f + b % top f) + endless f)
+          × (pick s (top f - b % top f) (top f + b % top f) ≤ top f + endless f)
+      go true = (omega (arith, number-size f b B), omega arith)
+      go false = (omega arith, omega (arith, number-size f b B))
+
+  by-size : (b n : ℕ) → b % top f ≡ n → n ≤ endless f → Number f b
+  by-size b n e h = nanBits-above f b ∙ le-ltb (endless f) (b % top f) (subst (λ (z : ℕ). z ≤ endless f) (sym e) h)
+
+  -- a pattern that is a number's and has a rank
+  abbrev Ranked : ℕ → ℕ → Type 0
+  Ranked r b = Number f b × (rank f b ≡ r)
+
+  upper : (n : ℕ) → n ≤ endless f → Ranked (top f + n) n
+  upper n h =
+      let l : n < top f = lt-of-le-of-lt h ends in
+      let e : n % top f ≡ n = mod-eq-of-lt l in
+      (by-size n n e h, rw (lt-leb (top f) n l, e))
+
+  lower : (n : ℕ) → n ≤ endless f → Ranked (top f - n) (top f + n)
+  lower n h =
+      let e : (top f + n) % top f ≡ n = add-mod-left (top f) n ∙ mod-eq-of-lt (lt-of-le-of-lt h ends) in
+      (by-size (top f + n) n e h, rw (le-leb (top f) (top f + n) (omega arith), e))
+
+  at-rank : (r : ℕ) → top f ≤ r + endless f → r ≤ top f + endless f → (b : ℕ) × Ranked r b
+  at-rank r l h = go (ltb r (top f)) refl
+    where
+      go : (t : Bool) → ltb r (top f) ≡ t → (b : ℕ) × Ranked r b
+      go true e =
+          let k = ltb-true r (top f) e in
+          let n = top f - r in
+          (top f + n, subst (λ (z : ℕ). Ranked z (top f + n)) (omega arith) (lower n (omega arith)))
+      go false e =
+          let k = ltb-false r (top f) e in
+          let n = r - top f in
+          (n, subst (λ (z : ℕ). Ranked z n) (omega arith) (upper n (omega arith)))
+
+  -- ---- a pattern of each number
+  above-number : (x z : Float) → lt x z ≡ true → isNan z ≡ false
+  unfolding lt isNan
+  above-number nan nan h = absurd (true≢false (sym h))
+  above-number (inf s) nan h = absurd (true≢false (sym h))
+  above-number (fin s m e) nan h = absurd (true≢false (sym h))
+  above-number x (inf s) h = refl
+  above-number x (fin s m e) h = refl
+
+  pattern-of : (z : Float) → fits f z ≡ true → isNan z ≡ false → (b : ℕ) × Number f b × (ofBits f b ≡ z)
+  pattern-of z F h =
+      let e : ofBits f (toBits f z) ≡ z = ofBits-toBits f z (subst T (sym F) tt) in
+      (toBits f z, nanBits-is f (toBits f z) ∙ ap isNan e ∙ h, e)
+
+  -- ---- the next number
+  pub next-rank : (a b : ℕ) → Number f a → Number f b → Next f (ofBits f a) (ofBits f b) → rank f b ≡ rank f a + 1
+  next-rank a b A B h = go (ltb (rank f a + 1) (rank f b)) refl
+    where
+      less : rank f a < rank f b
+      less = ltb-true (rank f a) (rank f b) (sym (lt-rank f a b A B) ∙ h .above)
+
+      go : (t : Bool) → ltb (rank f a + 1) (rank f b) ≡ t → rank f b ≡ rank f a + 1
+      go false e = let k = ltb-false (rank f a + 1) (rank f b) e in let l = less in omega arith
+      go true e =
+          let k = ltb-true (rank f a + 1) (rank f b) e in
+          let z = at-rank (rank f a + 1) (omega (arith, within a A .0)) (omega (arith, within b B .1)) in
+          let c = z .0 in
+          let C = z .1 .0 in
+          absurd (h .between (ofBits f c) (is-true (fits f (ofBits f c)) (ofBits-fits f c))
+          (lt-rank f a c A C ∙ lt-ltb (rank f a) (rank f c) (omega (arith, z .1 .1)))
+          (lt-rank f c b C B ∙ lt-ltb (rank f c) (rank f b) (omega (arith, z .1 .1))))
+
+  pub rank-next : (a b : ℕ) → Number f a → Number f b → rank f b ≡ rank f a + 1 → Next f (ofBits f a) (ofBits f b)
+  rank-next a b A B h = record {
+    above = lt-rank f a b A B ∙ lt-ltb (rank f a) (rank f b) (omega arith);
+    between = λ z F l k.
+        let p = pattern-of z F (above-number (ofBits f a) z l) in
+        let c = p .0 in
+        let C = p .1 in
+        let e = p .2 in
+        let l' = ltb-true (rank f a) (rank f c) (sym (lt-rank f a c A C) ∙ ap (lt (ofBits f a)) e ∙ l) in
+        let k' = ltb-true (rank f c) (rank f b) (sym (lt-rank f c b C B) ∙ ap (λ (y : Float). lt y (ofBits f b)) e ∙ k) in
+        omega arith;
+  }
+
+  -- ---- steps
+  pub steps-rank : (n a b : ℕ) → Number f a → Number f b → Steps f n (ofBits f a) (ofBits f b) → rank f b ≡ rank f a + n
+  steps-rank zero a b A B h = let e = eq-rank f a b A B h in omega arith
+  steps-rank (suc n) a b A B h =
+      let z = h .0 in
+      let next = h .2 in
+      let p = pattern-of z (h .1) (above-number (ofBits f a) z (next .above)) in
+      let c = p .0 in
+      let e = p .2 in
+      let one = next-rank a c A (p .1) (subst (λ (y : Float). Next f (ofBits f a) y) (sym e) next) in
+      let more = steps-rank n c b (p .1) B (subst (λ (y : Float). Steps f n y (ofBits f b)) (sym e) (h .3)) in
+      omega arith
+
+  pub rank-steps : (n a b : ℕ) → Number f a → Number f b → rank f b ≡ rank f a + n → Steps f n (ofBits f a) (ofBits f b)
+  rank-steps zero a b A B h = rank-eq f a b A B (omega arith)
+  rank-steps (suc n) a b A B h =
+      let z = at-rank (rank f a + 1) (omega (arith, within a A .0)) (omega (arith, within b B .1)) in
+      let c = z .0 in
+      let C = z .1 .0 in
+      (ofBits f c, is-true (fits f (ofBits f c)) (ofBits-fits f c), rank-next a c A C (z .1 .1), rank-steps n c b C B (omega (arith, z .1 .1)))

@@ -1,0 +1,54 @@
+-- What a place means, and what the distance promises: the line of a format's numbers, told of values alone. A number is a float that is no NaN, an
+-- infinity included. proofs/Promised has a proof of each promise, for both formats.
+use Prim.Native.Nat.{ℕ, zero, suc, _+_, _≤_}
+use mathlib.Core.Path.{_≡_}
+use mathlib.Core.Bool.{true, false}
+use mathlib.Core.Logic.{_↔_}
+use lib.IntN.{pos, _+ℤ_}
+use lib.Ieee.{Float, Format, fits, ofBits, nanBits}
+use Rattle.words.specs.Tests.{_<·_, _≤·_, _=·_, _<ℤ?_}
+use Rattle.distance.specs.Distance.{placeS, distanceS}
+use Rattle.distance.specs.declared.Apart.{Apart}
+
+-- a pattern that is no NaN's
+abbrev pub Number : Format → ℕ → Type 0
+Number f b = nanBits f b ≡ false
+
+-- y is the next number of the format above x: it is greater, and no float of the format lies between
+pub record Next (f : Format) (x y : Float) : Type 0 where
+  pub above : (x <· y) ≡ true
+  pub between : (z : Float) → fits f z ≡ true → (x <· z) ≡ true → (z <· y) ≡ true → ⊥
+
+-- n steps up lead from x to y, each to the next number of the format; -0 and +0 are one number
+abbrev pub Steps : Format → ℕ → Float → Float → Type 0
+Steps f zero x y = (x =· y) ≡ true
+Steps f (suc n) x y = (z : Float) × (fits f z ≡ true) × Next f x z × Steps f n z y
+
+-- Places are in the order of the numbers, and one number has one place.
+abbrev pub InOrder : Format → Type 0
+InOrder f =
+    (a b : ℕ) → Number f a → Number f b →
+    ((ofBits f a <· ofBits f b) ≡ (placeS f a <ℤ? placeS f b)) × (((ofBits f a =· ofBits f b) ≡ true) ↔ (placeS f a ≡ placeS f b))
+
+-- The next number up is at the next place, and nothing else is.
+abbrev pub NextPlace : Format → Type 0
+NextPlace f = (a b : ℕ) → Number f a → Number f b → Next f (ofBits f a) (ofBits f b) ↔ (placeS f b ≡ placeS f a +ℤ pos 1)
+
+-- The distance is the number of steps from the lesser number up to the greater: so many lead there, and no other number of steps does.
+abbrev pub CountsSteps : Format → Type 0
+CountsSteps f =
+    (a b : ℕ) → Number f a → Number f b → (ofBits f a ≤· ofBits f b) ≡ true →
+    (n : ℕ) → Steps f n (ofBits f a) (ofBits f b) ↔ (distanceS f a b .distance ≡ n)
+
+-- It is zero exactly for equal places,
+abbrev pub ZeroForSame : Format → Type 0
+ZeroForSame f = (a b : ℕ) → Number f a → Number f b → (distanceS f a b .distance ≡ 0) ↔ (placeS f a ≡ placeS f b)
+
+-- the same in either order, its code too,
+abbrev pub EitherOrder : Format → Type 0
+EitherOrder f = (a b : ℕ) → distanceS f a b ≡ distanceS f b a
+
+-- and never shorter by way of a third number.
+abbrev pub NoShortcut : Format → Type 0
+NoShortcut f =
+    (a b c : ℕ) → Number f b → distanceS f a c .distance ≤ distanceS f a b .distance + distanceS f b c .distance
