@@ -1,9 +1,11 @@
 #!/bin/sh
 # board.sh TARGET [COUNT]: tries the archive that bin/archive makes for TARGET. host/test.c, host/feed_test.c and host/gateway.c are built
-# against it and held to the stored streams, and the gateway answers COUNT requests of each kind (1,000,000 where it is not said) as the proved
-# program does. They run by themselves where this machine is of TARGET's kind, and else under an emulator. What is missing is installed by apt-get.
+# against it and held to the stored streams, host/distance_test.c to nextafter, and the gateway answers COUNT requests of each kind (1,000,000
+# where it is not said) as the proved program does. They run by themselves where this machine is of TARGET's kind, and else under an emulator.
+# What is missing is installed by apt-get.
 set -eu
 cd "$(dirname "$0")/.."
+. host/libm.sh
 
 die() { printf 'host/board.sh: %s\n' "$*" >&2; exit 2; }
 progress() { if [ -t 2 ]; then printf 'board: %s\n' "$*" >&2; fi; }
@@ -41,7 +43,7 @@ command -v "${native%% *}" >/dev/null || { apt-get update && apt-get install -y 
 awk -f host/kinds.awk kinds.txt >"$out/kinds.h"
 flags="-std=c99 -D_POSIX_C_SOURCE=200809L -O2 -Wall -Wextra -Wpedantic -Iinclude -I$out"
 # shellcheck disable=SC2086
-for name in test feed_test gateway; do $compile $flags -o "$out/$name" "host/$name.c" "$archive"; done
+for name in test feed_test gateway distance_test; do $compile $flags -o "$out/$name" "host/$name.c" "$archive" "$(libm_of $compile)"; done
 # shellcheck disable=SC2086
 $native $flags -o "$out/requests" host/requests.c
 
@@ -51,6 +53,7 @@ pairs='crates/answers/stdin crates/answers/stdout'
 for requests in cases/*.requests; do pairs="$pairs $requests ${requests%requests}answers"; done
 # shellcheck disable=SC2086
 for name in test feed_test; do $run "$out/$name" $pairs || die "the entries for $target do not answer as stored"; done
+$run "$out/distance_test" || die "the distance for $target"
 
 # the gateway's answers are all but the closing two bytes of the program's
 same() { # REQUESTS ANSWERS

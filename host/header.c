@@ -1,7 +1,7 @@
 /*
  * header.c: what include/raveltrellis.h writes out itself, tried from C and from C++ (the file is
- * both): the kinds and codes, the functions on double and float, and the report and the feed as
- * structs. Says which are wrong.
+ * both): the kinds and codes, the functions and the distance on double and float, and the report and
+ * the feed as structs. Says which are wrong.
  */
 #include <stdio.h>
 
@@ -24,6 +24,7 @@ static void kinds(void) {
     check(RVT_TGAMMA == 1 && RVT_LGAMMA_R == 2 && RVT_ERF == 3 && RVT_ERFC == 4, "the kinds of f64");
     check(RVT_LGAMMAF_R == 17 && RVT_ERFF == 19 && RVT_ERFCF == 20, "the kinds of f32");
     check(RVT_DONE == 0 && RVT_UNKNOWN == 1 && RVT_CUT == 2 && RVT_FULL == 3, "the codes");
+    check(RVT_NO_DISTANCE == 4, "the code of no distance");
     check(RVT_OTHER_LENGTH == 10 && RVT_REPORT_LENGTH == 10, "the code of another length, by both names");
     check(RVT_VERSION == 10000 * RVT_VERSION_MAJOR + 100 * RVT_VERSION_MINOR + RVT_VERSION_PATCH, "the version");
     check(sizeof(struct rvt_report) == RVT_REPORT_BYTES, "the bytes of a report");
@@ -50,6 +51,13 @@ static void floats(void) {
     check(same_f32(rvt_lgammaf_r_f32(2.0f, &sign), 0) && sign == 1, "lgammaf of 2 is 0, its sign plus");
     check(rvt_lgammaf_r_f32(-0.5f, &sign) > 1.26f && sign == -1, "lgammaf of -0.5, its sign minus");
     check(same_f32(rvt_lgammaf_r_f32(-0.5f, NULL), rvt_lgammaf_r_value(0xBF000000)), "lgammaf with no sign");
+}
+
+static void distances(void) {
+    double zero = 0.0, nan = zero / zero;
+    check(rvt_distance_f64(2.0, 1.0) == 0x10000000000000, "from 2 to 1");
+    check(rvt_distance_f64(-0.0, 0.0) == 0 && rvt_distance_f64(nan, 1.0) == 0, "the zeros, and a NaN");
+    check(rvt_distancef_f32(1.0f, 2.0f) == 0x800000 && rvt_distancef_f32(-0.0f, 0.0f) == 0, "the same in float");
 }
 
 static void batch(void) {
@@ -176,6 +184,7 @@ int main(void) {
     kinds();
     doubles();
     floats();
+    distances();
     batch();
     numbers();
     feed();

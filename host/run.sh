@@ -5,6 +5,7 @@
 set -eu
 cd "$(dirname "$0")/.."
 . host/compiler.sh
+. host/libm.sh
 run="$* $run"
 
 rt staticlib entries >&2
@@ -23,6 +24,7 @@ flags="-O2 -Wall -Wextra -Wpedantic -Wconversion -Wshadow -Werror -Iinclude -I$o
 posix=-D_POSIX_C_SOURCE=200809L
 build test -std=c99 host/test.c
 build feed_test -std=c99 host/feed_test.c
+build distance_test -std=c99 host/distance_test.c "$(libm_of $cc)"
 build header_c99 -std=c99 host/header.c
 build header_c11 -std=c11 host/header.c
 $cxx $flags -std=c++11 -Wold-style-cast -x c++ -c -o "$out/header.o" host/header.c
@@ -39,6 +41,7 @@ pairs='crates/answers/stdin crates/answers/stdout'
 for requests in cases/*.requests; do pairs="$pairs $requests ${requests%requests}answers"; done
 $run "$out/test" $pairs || die "the entries"
 $run "$out/feed_test" $pairs || die "the feed"
+$run "$out/distance_test" || die "the distance"
 for name in header_c99 header_c11 header_cxx; do $run "$out/$name" || die "$name"; done
 
 # the host on the stored streams, also where signals cut its reads and writes short: it writes what is stored but for the closing bytes, and
@@ -97,6 +100,6 @@ misused "$work/none" "$work/none"
 misused -s 9601 "$work/none"
 grep -q 'no speed: 9601$' "$work/said" || die "serial does not tell that a speed is none"
 
-echo "host: the entries, the feed, the header and the hosts answer as stored"
+echo "host: the entries, the feed, the header and the hosts answer as stored, and the distance goes by nextafter"
 
 host/install_test.sh

@@ -1,5 +1,6 @@
 /*
- * raveltrellis.h: gamma, log-gamma and the error functions, the batch and the feed, from C and C++.
+ * raveltrellis.h: gamma, log-gamma and the error functions, the batch and the feed, and the distance of two
+ * floats, from C and C++.
  *
  * The library is libraveltrellis.a as `bin/install` puts it beside this header, or
  * target/staticlib/libentries.a as `rt staticlib entries` proves and writes it, for Linux on x86-64.
@@ -25,7 +26,7 @@
 /* The version of this interface. What is added raises the second number, what changes or goes the
  * first. */
 #define RVT_VERSION_MAJOR 1
-#define RVT_VERSION_MINOR 1
+#define RVT_VERSION_MINOR 2
 #define RVT_VERSION_PATCH 0
 #define RVT_VERSION (RVT_VERSION_MAJOR * 10000 + RVT_VERSION_MINOR * 100 + RVT_VERSION_PATCH)
 
@@ -96,6 +97,7 @@ enum rvt_stop {
     RVT_UNKNOWN = 1,      /* the kind at the front is not in the table */
     RVT_CUT = 2,          /* the kind is known, and its body is incomplete */
     RVT_FULL = 3,         /* the record is whole, and its answer is longer than the room left */
+    RVT_NO_DISTANCE = 4,  /* a distance was asked of a NaN */
     RVT_OTHER_LENGTH = 10 /* the report, or the feed, has another length than its bytes: nothing is touched */
 };
 
@@ -153,6 +155,22 @@ uint64_t rvt_feed_push(uint8_t *feed, size_t feed_length, const uint8_t *piece, 
  * its counts are 0, and a state that no call has left becomes that of a feed that has stopped.
  */
 uint64_t rvt_feed_close(uint8_t *feed, size_t feed_length);
+
+/* ---- The distance. */
+
+/*
+ * How far two floats of one width lie apart, from their bits: the number of steps from one to the other
+ * along the representable numbers of that width. -0 and +0 are one place, and each infinity is one step past
+ * the largest finite number; so the least positive number and the least negative one are 2 apart. It is 0
+ * exactly for equal numbers, the same in either order, and never shorter by way of a third number. A NaN has
+ * no place: then the distance is 0, and its code RVT_NO_DISTANCE; else the code is 0.
+ */
+uint64_t rvt_distance(uint64_t a, uint64_t b);
+uint64_t rvt_distance_code(uint64_t a, uint64_t b);
+
+/* The same from the bits of two f32s. */
+uint64_t rvt_distancef(uint32_t a, uint32_t b);
+uint64_t rvt_distancef_code(uint32_t a, uint32_t b);
 
 /* ---- The same on C's own types. */
 
@@ -257,6 +275,10 @@ static inline float rvt_lgammaf_r_f32(float x, int *sign) {
         *sign = rvt_lgammaf_r_sign(bits);
     return rvt_of_bits_f32(rvt_lgammaf_r_value(bits));
 }
+
+/* The distance of two numbers, and 0 where one is a NaN. */
+static inline uint64_t rvt_distance_f64(double a, double b) { return rvt_distance(rvt_bits_f64(a), rvt_bits_f64(b)); }
+static inline uint64_t rvt_distancef_f32(float a, float b) { return rvt_distancef(rvt_bits_f32(a), rvt_bits_f32(b)); }
 
 #ifdef __cplusplus
 }

@@ -145,7 +145,10 @@ impl Pairs {
             2 => (a, special),
             3 => (special, a),
             4 => (special, special.wrapping_add(away) & bits ^ sign),
-            5 => (away & bits, sign ^ (random.next() >> (1 + random.below(63))) & bits),
+            5 => (
+                away & bits,
+                sign ^ (random.next() >> (1 + random.below(63))) & bits,
+            ),
             6 => (a, a.wrapping_sub(away) & bits ^ sign),
             _ => (a, a.wrapping_add(away) & bits ^ sign),
         }
@@ -228,7 +231,9 @@ mod tests {
                 let size = centre & (sign - 1);
                 let sizes = size.saturating_sub(2)..=size + 2;
                 let mut window: Vec<u64> = sizes.flat_map(|n| [n, n + sign]).collect();
-                window.retain(|&n| !width.value(n).is_nan() && (size <= 2 || n & sign == centre & sign));
+                window.retain(|&n| {
+                    !width.value(n).is_nan() && (size <= 2 || n & sign == centre & sign)
+                });
                 window.sort_by(|&a, &b| width.value(a).partial_cmp(&width.value(b)).unwrap());
                 window.dedup_by_key(|n| width.value(*n));
                 for pair in window.windows(2) {

@@ -293,10 +293,27 @@ pub fn request(leaf: u64, a: u64, b: u64) -> [u8; 24] {
     bytes
 }
 
+/// A word of eight bytes.
+fn word(bytes: &[u8]) -> u64 {
+    u64::from_le_bytes(bytes.try_into().unwrap())
+}
+
 /// The Rust's answer to the bytes of a request.
 pub fn answer_bytes(request: &[u8]) -> [u8; 8] {
-    let word = |at: usize| u64::from_le_bytes(request[at..at + 8].try_into().unwrap());
-    answer(word(0), word(8), word(16)).to_le_bytes()
+    answer(
+        word(&request[..8]),
+        word(&request[8..16]),
+        word(&request[16..]),
+    )
+    .to_le_bytes()
+}
+
+/// How two differing answers to the bytes of a request differ, in words.
+pub fn told_bytes(request: &[u8], port: &[u8], rust: &[u8]) -> String {
+    match port.len() {
+        8 => told(word(&request[..8]), word(port), word(rust)),
+        _ => String::new(),
+    }
 }
 
 #[cfg(test)]
@@ -337,6 +354,26 @@ mod tests {
         }
         assert_eq!(answer(9, 1.5f64.to_bits(), 0xffff_ffff), NAN);
         assert_eq!(answer(33, 0xffff_ffff, 0), u64::from(NAN_F32));
+    }
+
+    #[test]
+    fn how_far_apart() {
+        let (one, two) = (1f64.to_bits(), 2f64.to_bits());
+        assert_eq!(told(84, one, one + 3), ", 3 steps apart");
+        assert_eq!(told(84, NAN, one), ", one of them a NaN");
+        assert_eq!(told(41, 1, 0x8000_0000), ", 1 step apart");
+        assert_eq!(
+            told(43, 1 << 32 | 7, 0xffff_ffff << 32 | 7),
+            ", another sign"
+        );
+        assert_eq!(told(43, 1 << 32 | 7, 1 << 32 | 5), ", 2 steps apart");
+        assert_eq!(told(96, 7, 5), "");
+        let request = request(80, two, 0);
+        assert_eq!(
+            told_bytes(&request, &two.to_le_bytes(), &one.to_le_bytes()),
+            ", 4503599627370496 steps apart"
+        );
+        assert_eq!(told_bytes(&request, &[], &one.to_le_bytes()), "");
     }
 
     #[test]

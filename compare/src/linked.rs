@@ -2,6 +2,7 @@
 //! all 2^32 patterns of an f32 function take minutes. The archive is the one of bin/archive for this
 //! machine, on x86-64 the proved one.
 
+use crate::distance;
 use crate::leaves::{bits_of, bits_of_f32};
 use crate::patterns::{Patterns, Width};
 use crate::random::Random;
@@ -128,10 +129,8 @@ pub fn compare(seed: u64, count: u64) -> u8 {
 /// Compares a function at the patterns of `total` places.
 fn by_parts(function: &Function, total: u64, pattern: impl Fn(u64) -> u64 + Sync, sum: &mut Tally) {
     let pattern = &pattern;
-    for part in in_parts(total, |from, upto| part_of(function, from, upto, pattern)) {
-        sum.compared += part.compared;
-        sum.differ += part.differ;
-    }
+    let parts = in_parts(total, |from, upto| part_of(function, from, upto, pattern));
+    parts.iter().for_each(|part| sum.add(part));
 }
 
 /// Runs `total` places in as many parts at a time as the machine has processors, and answers what each
@@ -156,7 +155,11 @@ fn part_of(function: &Function, from: u64, upto: u64, pattern: impl Fn(u64) -> u
         let (port, rust) = ((function.port)(x), (function.rust)(x));
         tally.count(port == rust, || {
             let name = function.name;
-            format!("{name} of {x:#x}: port {port:x?}, Rust {rust:x?}")
+            let told = match port.0 == rust.0 {
+                true => "another sign".to_string(),
+                false => distance::told(function.width, port.0, rust.0),
+            };
+            format!("{name} of {x:#x}: port {port:x?}, Rust {rust:x?}, {told}")
         });
         progress.at(place - from);
     }

@@ -1,6 +1,8 @@
 //! Compares the port with the Rust, bit for bit: the leaves by the program `leaves`, the request
-//! stream by the program `answers`, the C entries and their feed by a call.
+//! stream by the program `answers`, the C entries, their feed and their distance by a call.
 
+#[cfg(feature = "linked")]
+mod apart;
 mod constants;
 mod cuts;
 mod distance;
@@ -45,6 +47,9 @@ const USAGE: &str = "usage:
   compare feed SEED COUNT            the feed of the C entries, linked: COUNT streams of mixed kinds, damaged
                                      ones among them, cut at random, as many made-up states, and feeds of
                                      other lengths, with a model of the feed (such a build)
+  compare distance SEED COUNT        the distance of the C entries, linked: every pair of the special patterns
+                                     of either width and COUNT random pairs, with the distance by the values
+                                     (such a build)
   compare stream SEED COUNT [FILE]   COUNT requests of mixed kinds beside the systematic ones, and
                                      damaged streams
   compare stored                     the lists and streams that the gate replays, answer by answer
@@ -83,6 +88,8 @@ fn run(words: &[&str]) -> io::Result<u8> {
         ["linked", seed, count] => Ok(linked::compare(number(seed)?, number(count)?)),
         #[cfg(feature = "linked")]
         ["feed", seed, count] => Ok(feeding::compare(number(seed)?, number(count)?)),
+        #[cfg(feature = "linked")]
+        ["distance", seed, count] => Ok(apart::compare(number(seed)?, number(count)?)),
         ["exhaustive-f32", file @ ..] => compare_all_singles(&program("leaves", file)?),
         ["stream", seed, count, file @ ..] => {
             compare_streams(number(seed)?, number(count)?, &program("answers", file)?)
@@ -159,7 +166,9 @@ fn ask_leaf(
         tally.count(got == want, || {
             let name = leaf.name;
             let told = leaves::told(number, got, want);
-            format!("leaf {number}, {name}: a {a:#x}, b {b:#x}: port {got:#x}, Rust {want:#x}{told}")
+            format!(
+                "leaf {number}, {name}: a {a:#x}, b {b:#x}: port {got:#x}, Rust {want:#x}{told}"
+            )
         });
         at(place);
     };

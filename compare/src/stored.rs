@@ -1,7 +1,7 @@
 //! What the gate replays without the Rust, held to the Rust: the list of the program `leaves`, and the
 //! streams of the program `answers`.
 
-use crate::leaves::answer_bytes;
+use crate::leaves::{answer_bytes, told_bytes};
 use crate::port::{failure, repository};
 use crate::stream;
 use crate::tally::Tally;
@@ -31,7 +31,8 @@ fn list(here: &Path, tally: &mut Tally) -> io::Result<()> {
     for request in requests.chunks_exact(24) {
         let (port, rust) = (stored.next().unwrap_or(&[]), answer_bytes(request));
         tally.count(port == rust, || {
-            format!("question {request:02x?}: stored {port:02x?}, Rust {rust:02x?}")
+            let told = told_bytes(request, port, &rust);
+            format!("question {request:02x?}: stored {port:02x?}, Rust {rust:02x?}{told}")
         });
     }
     tally.count(stored.next().is_none(), || {

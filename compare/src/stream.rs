@@ -1,8 +1,10 @@
 //! The request stream answered by libm: one byte of kind and the argument's bits, the lowest byte
 //! first; the batch with its room, and the form of the program `answers`.
 
+use crate::distance;
 use crate::kinds::{kinds, Kind};
 use crate::leaves::{bits_of, bits_of_f32};
+use crate::patterns::Width;
 use crate::tally::Tally;
 use std::sync::OnceLock;
 
@@ -133,6 +135,33 @@ pub fn program(requests: &[u8]) -> Vec<u8> {
     answers
 }
 
+/// How an answer that differs from the Rust's does so, in words: how far apart the values are, or that what
+/// stands behind them is another. Nothing where its first byte or its length is.
+fn told(kind: &Kind, port: &[u8], rust: &[u8]) -> String {
+    if port.len() != rust.len() || port[0] != rust[0] {
+        return String::new();
+    }
+    let bits = |bytes: &[u8]| bytes.iter().rev().fold(0, |n, &b| n << 8 | u64::from(b));
+    let (mut words, mut at) = (String::new(), 1);
+    for &bytes in &kind.values {
+        let value = at..at + bytes;
+        let (port, rust) = (bits(&port[value.clone()]), bits(&rust[value.clone()]));
+        let width = if bytes == 8 {
+            Width::Double
+        } else {
+            Width::Single
+        };
+        if port != rust {
+            words += &format!(", {}", distance::told(width, port, rust));
+        }
+        at = value.end;
+    }
+    if port[at..] != rust[at..] {
+        words += &format!(", another {}", kind.tail.join(" or "));
+    }
+    words
+}
+
 /// Compares what the port wrote for a stream with what the Rust answers, record by record, and the end
 /// behind them.
 pub fn compare(requests: &[u8], got: &[u8], tally: &mut Tally) {
@@ -143,7 +172,8 @@ pub fn compare(requests: &[u8], got: &[u8], tally: &mut Tally) {
         let answer = &want[written..end];
         let port = got.get(written..end).unwrap_or(&[]);
         tally.count(port == answer, || {
-            format!("request {request:02x?}: port {port:02x?}, Rust {answer:02x?}")
+            let told = told(kind, port, answer);
+            format!("request {request:02x?}: port {port:02x?}, Rust {answer:02x?}{told}")
         });
         read += request.len();
         written = end;
@@ -201,6 +231,20 @@ mod tests {
         assert_eq!(batch(&CASE, &mut answers), report(3, 1, 9, 9));
         assert_eq!(answers[..9], CASE_ANSWER[..9]);
         assert_eq!(answers[9..], [7; 9]);
+    }
+
+    #[test]
+    fn how_far_apart() {
+        let kind = kind_of(2).unwrap();
+        let answer = &CASE_ANSWER[9..19];
+        let mut other = answer.to_vec();
+        other[1] = 3;
+        assert_eq!(told(kind, &other, answer), ", 3 steps apart");
+        other[9] = 255;
+        assert_eq!(told(kind, &other, answer), ", 3 steps apart, another sign");
+        other[1..9].copy_from_slice(&(1u64 << 63 | 2).to_le_bytes());
+        assert_eq!(told(kind, &other, answer), ", 2 steps apart, another sign");
+        assert_eq!(told(kind, &[], answer), "");
     }
 
     #[test]

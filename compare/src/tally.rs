@@ -28,6 +28,13 @@ impl Tally {
         }
     }
 
+    /// Adds what a part of the run has counted.
+    #[cfg(feature = "linked")]
+    pub fn add(&mut self, part: &Tally) {
+        self.compared += part.compared;
+        self.differ += part.differ;
+    }
+
     /// Prints the last line of a run, and answers its exit status.
     pub fn finish(&self) -> u8 {
         if self.differ > SHOWN {

@@ -288,8 +288,7 @@ impl Part {
     }
 
     fn add(&mut self, part: Part) {
-        self.tally.compared += part.tally.compared;
-        self.tally.differ += part.tally.differ;
+        self.tally.add(&part.tally);
         self.streams += part.streams;
         self.calls += part.calls;
         self.made_up += part.made_up;

@@ -4,4 +4,5 @@ pub mod SpotLaws
 pub mod PlaceLaws
 pub mod LineLaws
 pub mod Promised
+pub mod Cases
 pub mod Unique

@@ -5,15 +5,20 @@ use Prim.Native.Nat.{ℕ, zero, suc, _+_, _-_, _≤_, zero-le}
 use native.Mathlib.Omega.{arith}
 use lib.Dec.{T}
 use lib.IntN.{ℤ, pos, natAbs, _+ℤ_, _-ℤ_}
-use lib.Ieee.{Format, top, nanBits, ofBits, le}
+use lib.Ieee.{Format, binary32, binary64, top, nanBits, ofBits, le}
 use Rattle.words.specs.Pick.{pick}
 use Rattle.distance.specs.Distance.{placeS, distanceS}
-use Rattle.distance.specs.Line.{Number, InOrder, NextPlace, CountsSteps, ZeroForSame, EitherOrder, NoShortcut}
+use Rattle.distance.specs.Line.{Number, AtZero, InOrder, NextPlace, CountsSteps, ZeroForSame, EitherOrder, NoShortcut}
 use Rattle.distance.specs.declared.Apart.{Apart}
 use Rattle.distance.proofs.Shift.{size-is, size-turned, size-through, shift-difference, shift-eq, eq-shift, shift-plus, shift-less}
 use Rattle.distance.proofs.SpotLaws.{distance-is}
 use Rattle.distance.proofs.PlaceLaws.{rank, rank-is, lt-rank, rank-eq, le-rank, eq-rank}
 use Rattle.distance.proofs.LineLaws.{next-rank, rank-next, steps-rank, rank-steps}
+
+pub at-zero : (f : Format) → AtZero f
+unfolding placeS
+at-zero binary32 = (refl, refl)
+at-zero binary64 = (refl, refl)
 
 module _ (f : Format) where
   same-rank : (a b : ℕ) → placeS f a ≡ placeS f b → rank f a ≡ rank f b

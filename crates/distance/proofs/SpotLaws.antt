@@ -34,6 +34,10 @@ both true t x y = refl
 both false true x y = refl
 both false false x y = refl
 
+-- two numbers have a distance
+pub of-numbers : (m n : Bool) (x y : Apart) → m ≡ true → n ≡ true → x ≡ pick (m && n) x y
+of-numbers m n x y h k = rw (h, k)
+
 -- from two spots to the distance
 pub by-spots : (f : Format) (a b K : ℕ) (m n : Bool) (u v : ℕ) → m ≡ not (nanBits f a) → n ≡ not (nanBits f b)
     → pos u ≡ placeS f a +ℤ pos K → pos v ≡ placeS f b +ℤ pos K

@@ -5,7 +5,7 @@ use mathlib.Core.Path.{_≡_}
 use mathlib.Core.Bool.{true, false}
 use mathlib.Core.Logic.{_↔_}
 use lib.IntN.{pos, _+ℤ_}
-use lib.Ieee.{Float, Format, fits, ofBits, nanBits}
+use lib.Ieee.{Float, Format, top, fits, ofBits, nanBits}
 use Rattle.words.specs.Tests.{_<·_, _≤·_, _=·_, _<ℤ?_}
 use Rattle.distance.specs.Distance.{placeS, distanceS}
 use Rattle.distance.specs.declared.Apart.{Apart}
@@ -23,6 +23,10 @@ pub record Next (f : Format) (x y : Float) : Type 0 where
 abbrev pub Steps : Format → ℕ → Float → Float → Type 0
 Steps f zero x y = (x =· y) ≡ true
 Steps f (suc n) x y = (z : Float) × (fits f z ≡ true) × Next f x z × Steps f n z y
+
+-- Both zeros are at place 0.
+abbrev pub AtZero : Format → Type 0
+AtZero f = (placeS f 0 ≡ pos 0) × (placeS f (top f) ≡ pos 0)
 
 -- Places are in the order of the numbers, and one number has one place.
 abbrev pub InOrder : Format → Type 0
