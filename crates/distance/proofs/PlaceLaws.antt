@@ -7,16 +7,15 @@ use Prim.Native.Nat.{ℕ, zero, suc, _+_, _-_, _*_, _/_, _%_, _^_, _≤_, _<_}
 use native.Mathlib.Nat.{eq-or-lt-of-le, eq-zero-or-pos, le-of-lt, mod-lt, mul-lt-mul-of-pos-right, mul-le-mul-right, mul-div-cancel, mul-mod-left, eq-of-mul-eq-mul-right, zero-mul}
 use native.Mathlib.Omega.{arith}
 use borrow.Author.Tests.{ltb-true, ltb-false, eq-eqb}
-use lib.Dec.{T, leb, ltb, eqb, eqb→eq}
+use lib.Dec.{T, leb, ltb}
 use lib.IntN.{ℤ, pos, _+ℤ_}
 use lib.Pow.{pow-pos}
 use lib.Ieee.{Float, nan, inf, fin, Format, binary32, binary64, low, hid, ones, top, up, down, level, lt, eq, le, ofFields, ofBits, nanBits}
 use lib.Ieee.Bits.{is-true, is-false, nanBits-above}
 use lib.Ieee.Exact.{HasValue}
-use lib.Ieee.Fits.{and-l}
 use lib.Ieee.Scale.{finite}
 use Rattle.rounding.proofs.Signed.{P, N, Le, signed-of-le, value-finite}
-use Rattle.rounding.proofs.Order.{lt-le, le-of-not-lt, not-lt-of-le, eq-values}
+use Rattle.rounding.proofs.Order.{lt-le, le-of-not-lt, not-lt-of-le, eq-values, eq-le, eq-turned}
 use Rattle.rounding.proofs.BitOrder.{bitVal, val-lt, endless, bits-open}
 use Rattle.words.specs.Pick.{pick}
 use Rattle.words.proofs.PatternLaws.{pattern-value, digits-rest}
@@ -166,53 +165,6 @@ eq-by-size f x y true true n m a b h = same-sign f x y true n m a b (omega arith
 eq-by-size f x y false true n m a b h = both-zero f x y false true n m a b (omega arith) (omega arith)
 eq-by-size f x y true false n m a b h = both-zero f x y true false n m a b (omega arith) (omega arith)
 
--- ---- `lt`, `le` and `eq` exclude each other, on all floats
-pub not-below : (x y : Float) → T (le y x) → lt x y ≡ false
-unfolding le lt
-not-below nan y h = refl
-not-below (inf s) nan h = refl
-not-below (inf false) (inf t) h = refl
-not-below (inf true) (inf true) h = refl
-not-below (inf true) (inf false) h = absurd h
-not-below (inf false) (fin t n d) h = refl
-not-below (inf true) (fin t n d) h = absurd h
-not-below (fin s m e) nan h = refl
-not-below (fin s m e) (inf true) h = refl
-not-below (fin s m e) (inf false) h = absurd h
-not-below (fin s m e) (fin t n d) h = not-lt-of-le (fin s m e) (fin t n d) tt tt h
-
-eq-le : (x y : Float) → T (eq x y) → T (le x y)
-unfolding le
-eq-le x y h = go (lt x y)
-  where
-    go : (b : Bool) → T (b || eq x y)
-    go true = tt
-    go false = h
-
-level-turned : (s : Bool) (a : ℕ) (t : Bool) (b : ℕ) → T (level s a t b) → T (level t b s a)
-level-turned s a t b h =
-    let e : a ≡ b = eqb→eq a b (and-l (eqb a b) _ h) in
-    subst (λ (z : ℕ). T (level t z s a)) e (go s t (subst (λ (z : ℕ). T (level s a t z)) (sym e) h))
-  where
-    go : (s t : Bool) → T (level s a t a) → T (level t a s a)
-    go false false h = h
-    go false true h = h
-    go true false h = h
-    go true true h = h
-
-eq-turned : (x y : Float) → T (eq x y) → T (eq y x)
-unfolding eq
-eq-turned nan y h = absurd h
-eq-turned (inf s) nan h = absurd h
-eq-turned (inf false) (inf false) h = tt
-eq-turned (inf true) (inf true) h = tt
-eq-turned (inf false) (inf true) h = absurd h
-eq-turned (inf true) (inf false) h = absurd h
-eq-turned (inf s) (fin t n d) h = absurd h
-eq-turned (fin s m e) nan h = absurd h
-eq-turned (fin s m e) (inf t) h = absurd h
-eq-turned (fin s m e) (fin t n d) h = level-turned s (m * up e * down d) t (n * up d * down e) h
-
 -- ---- ranks
 
 -- the place, shifted by the weight of the sign
@@ -269,14 +221,14 @@ module _ (f : Format) where
 
       go : (t : Bool) → ltb (rank f a) (rank f b) ≡ t → lt x y ≡ t
       go true h = is-true (lt x y) (below-by-rank a b A B (ltb-true (rank f a) (rank f b) h))
-      go false h = not-below x y (at-least (ltb-false (rank f a) (rank f b) h))
+      go false h = not-lt-of-le x y (at-least (ltb-false (rank f a) (rank f b) h))
 
   pub rank-eq : (a b : ℕ) → Number f a → Number f b → rank f a ≡ rank f b → eq (ofBits f a) (ofBits f b) ≡ true
   rank-eq a b A B h = is-true (eq (ofBits f a) (ofBits f b)) (eq-by-rank a b A B h)
 
   -- what is at most a number has at most its rank
   pub le-rank : (a b : ℕ) → Number f a → Number f b → T (le (ofBits f a) (ofBits f b)) → rank f a ≤ rank f b
-  le-rank a b A B h = ltb-false (rank f b) (rank f a) (sym (lt-rank b a B A) ∙ not-below (ofBits f b) (ofBits f a) h)
+  le-rank a b A B h = ltb-false (rank f b) (rank f a) (sym (lt-rank b a B A) ∙ not-lt-of-le (ofBits f b) (ofBits f a) h)
 
   pub eq-rank : (a b : ℕ) → Number f a → Number f b → eq (ofBits f a) (ofBits f b) ≡ true → rank f a ≡ rank f b
   eq-rank a b A B h =

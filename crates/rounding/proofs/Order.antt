@@ -1,20 +1,20 @@
 -- The order `le` on floats:
 --   `le-refl`, `le-total`, `le-trans`: it is reflexive and total on finite values, and transitive on all;
 --   `lt-le`, `le-of-not-lt`, `not-lt-of-le`: `lt` is the order without equality;
---   `eq-values`: the test `eq` on two values of one sign, by any fractions that they equal;
+--   `eq-values`: the test `eq` on two values of one sign, by any fractions that they equal; `eq-le`, `eq-turned`: on all;
 --   `between-finite`, `neg-finite`: what lies between finite values is finite, and so is the negative of one;
 --   `Between`, `between-bounds`: to lie between two values, one way round or the other.
 -- Assumes nothing.
-use mathlib.Core.Path.{_≡_, refl, sym, ap, _∙_}
+use mathlib.Core.Path.{_≡_, refl, sym, ap, _∙_, subst}
 use mathlib.Core.Logic.{_⊎_, inl, inr}
 use Prim.Native.Nat.{ℕ, _+_, _*_, _≤_, _<_}
 use native.Mathlib.Nat.{mul-comm, mul-pos, mul-mul-mul-comm, eq-of-mul-eq-mul-right}
 use native.Mathlib.Omega.{arith}
 use mathlib.Core.Bool.{Bool, true, false, not, _||_, _&&_, false≢true}
-use lib.Dec.{T, T-not, ltb, ltb→lt, nltb→le, eqb}
+use lib.Dec.{T, T-not, ltb, ltb→lt, nltb→le, eqb, eqb→eq}
 use lib.Ieee.{Float, nan, inf, fin, up, down, neg, le, lt, eq, level}
 use lib.Ieee.Exact.{HasValue}
-use lib.Ieee.Fits.{down-pos}
+use lib.Ieee.Fits.{and-l, down-pos}
 use lib.Ieee.Scale.{finite}
 use borrow.Author.Tests.{le-ltb, eqb-true, eq-eqb, ne-eqb}
 use Rattle.rounding.proofs.Signed.{P, N, Le-refl, Le-trans, le→Le, Le→le, le-signed}
@@ -96,19 +96,25 @@ le-of-not-lt (fin true m e) (fin false n d) X Y h =
 le-of-not-lt (fin true m e) (fin true n d) X Y h =
     let k = nltb→le (n * up d * down e) (m * up e * down d) h in Le→le true n d true m e (omega arith)
 
--- what is at least y is not below y
-pub not-lt-of-le : (x y : Float) → T (finite x) → T (finite y) → T (le y x) → lt x y ≡ false
-unfolding lt
-not-lt-of-le nan y X Y h = absurd X
-not-lt-of-le (inf s) y X Y h = absurd X
-not-lt-of-le (fin s m e) nan X Y h = absurd Y
-not-lt-of-le (fin s m e) (inf t) X Y h = absurd Y
-not-lt-of-le (fin false m e) (fin false n d) X Y h =
+-- what is at least y is not below y, infinities and NaN included
+pub not-lt-of-le : (x y : Float) → T (le y x) → lt x y ≡ false
+unfolding lt le
+not-lt-of-le nan y h = refl
+not-lt-of-le (inf s) nan h = refl
+not-lt-of-le (inf false) (inf t) h = refl
+not-lt-of-le (inf true) (inf true) h = refl
+not-lt-of-le (inf true) (inf false) h = absurd h
+not-lt-of-le (inf false) (fin t n d) h = refl
+not-lt-of-le (inf true) (fin t n d) h = absurd h
+not-lt-of-le (fin s m e) nan h = refl
+not-lt-of-le (fin s m e) (inf true) h = refl
+not-lt-of-le (fin s m e) (inf false) h = absurd h
+not-lt-of-le (fin false m e) (fin false n d) h =
     let k = le→Le false n d false m e h in le-ltb (m * up e * down d) (n * up d * down e) (omega arith)
-not-lt-of-le (fin false m e) (fin true n d) X Y h = refl
-not-lt-of-le (fin true m e) (fin false n d) X Y h =
+not-lt-of-le (fin false m e) (fin true n d) h = refl
+not-lt-of-le (fin true m e) (fin false n d) h =
     let k = le→Le false n d true m e h in le-ltb 0 (m * up e * down d + n * up d * down e) (omega arith)
-not-lt-of-le (fin true m e) (fin true n d) X Y h =
+not-lt-of-le (fin true m e) (fin true n d) h =
     let k = le→Le true n d true m e h in le-ltb (n * up d * down e) (m * up e * down d) (omega arith)
 
 -- ---- `eq`
@@ -158,6 +164,40 @@ eq-values (fin t m e) (fin u n g) s a c b d C D v w =
     ∙ same-test (M * down g) (N * down e) (a * d) (b * c)
     (cross M N (down e) (down g) a b c d (down-pos e) (down-pos g) (v .1) (w .1))
     (cross a b c d M N (down e) (down g) C D (sym (v .1)) (sym (w .1)))
+
+-- what equals y is at most y
+pub eq-le : (x y : Float) → T (eq x y) → T (le x y)
+unfolding le
+eq-le x y h = go (lt x y)
+  where
+    go : (b : Bool) → T (b || eq x y)
+    go true = tt
+    go false = h
+
+level-turned : (s : Bool) (a : ℕ) (t : Bool) (b : ℕ) → T (level s a t b) → T (level t b s a)
+level-turned s a t b h =
+    let e : a ≡ b = eqb→eq a b (and-l (eqb a b) _ h) in
+    subst (λ (z : ℕ). T (level t z s a)) e (go s t (subst (λ (z : ℕ). T (level s a t z)) (sym e) h))
+  where
+    go : (s t : Bool) → T (level s a t a) → T (level t a s a)
+    go false false h = h
+    go false true h = h
+    go true false h = h
+    go true true h = h
+
+-- and y equals it
+pub eq-turned : (x y : Float) → T (eq x y) → T (eq y x)
+unfolding eq
+eq-turned nan y h = absurd h
+eq-turned (inf s) nan h = absurd h
+eq-turned (inf false) (inf false) h = tt
+eq-turned (inf true) (inf true) h = tt
+eq-turned (inf false) (inf true) h = absurd h
+eq-turned (inf true) (inf false) h = absurd h
+eq-turned (inf s) (fin t n d) h = absurd h
+eq-turned (fin s m e) nan h = absurd h
+eq-turned (fin s m e) (inf t) h = absurd h
+eq-turned (fin s m e) (fin t n d) h = level-turned s (m * up e * down d) t (n * up d * down e) h
 
 -- ---- finite values
 

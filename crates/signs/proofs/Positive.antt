@@ -5,7 +5,7 @@ use lib.Dec.{T}
 use lib.Ieee.{Float, binary64, neg, le, lt, fits, ofBits}
 use lib.Ieee.Fits.{mul-fits}
 use Rattle.rounding.proofs.Signed.{Signed}
-use Rattle.rounding.proofs.Order.{le-trans, not-lt-of-le, between-finite}
+use Rattle.rounding.proofs.Order.{le-trans, not-lt-of-le}
 use Rattle.words.specs.F64.{bits}
 use Rattle.exp.specs.Exp.{expS}
 use Rattle.tgamma.specs.Lanczos.{sS}
@@ -27,7 +27,7 @@ wider-100 = tt
 not-minus : (x : Float) → Middle x → lt x (bits 0) ≡ false
 unfolding ofBits le
 not-minus x i =
-    not-lt-of-le x (bits 0) (between-finite from-54 x to184 tt tt (i .0) (i .1)) tt (le-trans (bits 0) from-54 x tt (i .0))
+    not-lt-of-le x (bits 0) (le-trans (bits 0) from-54 x tt (i .0))
 
 pub lanczos-sign : (x : Float) → T (fits binary64 x) → Middle x → Signed false (lanczosS x 0)
 lanczos-sign x F i =
