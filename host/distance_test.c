@@ -72,12 +72,12 @@ static void walks(const struct width *w, double x) {
     walk(w, -x, -INFINITY);
 }
 
-/* From every power of two, with 33 numbers on either side of it, and from what lies near the ends. */
+/* From every power of two, and from the 33rd number below it, so that a walk crosses it; and from the ends. */
 static void every_power(const struct width *w) {
     for (int k = w->lowest - w->digits + 1; k <= w->highest; k++) {
         double x = ldexp(1.0, k);
         walks(w, x);
-        for (int i = 0; i < WALK / 2 - 2; i++)
+        for (int i = 0; i < 33; i++)
             x = w->next(x, 0.0);
         walks(w, x);
     }

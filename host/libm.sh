@@ -3,7 +3,7 @@
 
 # Debian's libm.a of a cross compiler can be a list of files by the paths of the other machine; the archive that it means stands beside it.
 libm_of() { # COMPILER..
-    found=$(find "$(dirname "$("$@" -print-file-name=libm.a)")" -name 'libm-[0-9]*.a' 2>/dev/null | head -n 1)
+    found=$(find "$(dirname "$("$@" -print-file-name=libm.a)")" -maxdepth 1 -name 'libm-[0-9]*.a' 2>/dev/null | head -n 1)
     case $*:$found in
     *-static*:?*) echo "$found" ;;
     *) echo -lm ;;

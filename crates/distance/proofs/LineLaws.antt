@@ -1,12 +1,12 @@
 -- Steps along the line, by ranks: the next number has the next rank, and n steps lead n ranks up. Assumes nothing.
 use mathlib.Core.Path.{_≡_, refl, sym, ap, _∙_, subst}
 use mathlib.Core.Bool.{Bool, true, false, true≢false}
-use Prim.Native.Nat.{ℕ, zero, suc, _+_, _-_, _*_, _%_, _≤_, _<_}
+use Prim.Native.Nat.{ℕ, zero, suc, _+_, _-_, _%_, _≤_, _<_}
 use native.Mathlib.Nat.{mod-eq-of-lt, add-mod-left, lt-of-le-of-lt}
 use native.Mathlib.Omega.{arith}
 use borrow.Author.Tests.{ltb-true, ltb-false, lt-ltb, le-ltb, le-leb, lt-leb}
 use lib.Dec.{T, leb, ltb}
-use lib.Ieee.{Float, nan, inf, fin, Format, binary32, binary64, hid, ones, top, lt, fits, ofBits, toBits, isNan, nanBits}
+use lib.Ieee.{Float, nan, inf, fin, Format, binary32, binary64, top, lt, fits, ofBits, toBits, isNan}
 use lib.Ieee.Bits.{is-true, nanBits-above, nanBits-is, ofBits-fits, ofBits-toBits}
 use Rattle.rounding.proofs.BitOrder.{endless}
 use Rattle.words.specs.Pick.{pick}

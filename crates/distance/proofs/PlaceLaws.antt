@@ -1,22 +1,21 @@
 -- Numbers are in the order of their places. A pattern b that is no NaN's stands for a value with a sign, b's, and a size of so many steps from
 -- zero, b without the sign; a rank is the place, shifted above zero. Assumes nothing.
 use mathlib.Core.Path.{_≡_, refl, sym, ap, _∙_, subst}
-use mathlib.Core.Logic.{_⊎_, inl, inr}
-use mathlib.Core.Bool.{Bool, true, false, not, _&&_, _||_, Bool·beq}
-use Prim.Native.Nat.{ℕ, zero, suc, _+_, _-_, _*_, _/_, _%_, _^_, _≤_, _<_}
-use native.Mathlib.Nat.{eq-or-lt-of-le, eq-zero-or-pos, le-of-lt, mod-lt, mul-lt-mul-of-pos-right, mul-le-mul-right, mul-div-cancel, mul-mod-left, eq-of-mul-eq-mul-right, zero-mul}
+use mathlib.Core.Logic.{inl, inr}
+use mathlib.Core.Bool.{Bool, true, false, not}
+use Prim.Native.Nat.{ℕ, _+_, _-_, _*_, _/_, _%_, _^_, _≤_, _<_}
+use native.Mathlib.Nat.{eq-or-lt-of-le, eq-zero-or-pos, le-of-lt, mod-lt, mul-lt-mul-of-pos-right, mul-div-cancel, mul-mod-left, eq-of-mul-eq-mul-right, zero-mul}
 use native.Mathlib.Omega.{arith}
 use borrow.Author.Tests.{ltb-true, ltb-false, eq-eqb}
 use lib.Dec.{T, leb, ltb}
 use lib.IntN.{ℤ, pos, _+ℤ_}
 use lib.Pow.{pow-pos}
-use lib.Ieee.{Float, nan, inf, fin, Format, binary32, binary64, low, hid, ones, top, up, down, level, lt, eq, le, ofFields, ofBits, nanBits}
-use lib.Ieee.Bits.{is-true, is-false, nanBits-above}
+use lib.Ieee.{Float, nan, inf, fin, Format, binary32, binary64, low, hid, ones, top, up, down, level, lt, eq, le, ofFields, ofBits}
+use lib.Ieee.Bits.{is-true, nanBits-above}
 use lib.Ieee.Exact.{HasValue}
-use lib.Ieee.Scale.{finite}
 use Rattle.rounding.proofs.Signed.{P, N, Le, signed-of-le, value-finite}
 use Rattle.rounding.proofs.Order.{lt-le, le-of-not-lt, not-lt-of-le, eq-values, eq-le, eq-turned}
-use Rattle.rounding.proofs.BitOrder.{bitVal, val-lt, endless, bits-open}
+use Rattle.rounding.proofs.BitOrder.{bitVal, hid-pos, val-lt, endless, bits-open}
 use Rattle.words.specs.Pick.{pick}
 use Rattle.words.proofs.PatternLaws.{pattern-value, digits-rest}
 use Rattle.distance.specs.Distance.{placeS}
@@ -35,9 +34,6 @@ infinity : (f : Format) (s : Bool) → ofFields f s (ones f) 0 ≡ inf s
 unfolding ofFields
 infinity binary32 s = refl
 infinity binary64 s = refl
-
-hid-pos : (f : Format) → 0 < hid f
-hid-pos f = pow-pos _
 
 of-infinity : (f : Format) (b : ℕ) → b % top f ≡ endless f → ofBits f b ≡ inf (leb (top f) b)
 of-infinity f b e =

@@ -1,11 +1,11 @@
 -- Each promise of specs/Line, for both formats. Assumes nothing.
 use mathlib.Core.Path.{_≡_, refl, sym, ap, _∙_, subst}
 use mathlib.Core.Bool.{Bool, true, false, _||_}
-use Prim.Native.Nat.{ℕ, zero, suc, _+_, _-_, _≤_, zero-le}
+use Prim.Native.Nat.{ℕ, _+_, _-_, _≤_}
 use native.Mathlib.Omega.{arith}
 use lib.Dec.{T}
-use lib.IntN.{ℤ, pos, natAbs, _+ℤ_, _-ℤ_}
-use lib.Ieee.{Format, binary32, binary64, top, nanBits, ofBits, le}
+use lib.IntN.{pos, natAbs, _+ℤ_, _-ℤ_}
+use lib.Ieee.{Format, binary32, binary64, top, nanBits}
 use Rattle.words.specs.Pick.{pick}
 use Rattle.distance.specs.Distance.{placeS, distanceS}
 use Rattle.distance.specs.Line.{Number, AtZero, InOrder, NextPlace, CountsSteps, ZeroForSame, EitherOrder, NoShortcut}

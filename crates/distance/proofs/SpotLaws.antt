@@ -4,7 +4,7 @@ use mathlib.Core.Bool.{Bool, true, false, not, _&&_, _||_}
 use Prim.Native.Nat.{ℕ, _*_, _%_}
 use borrow.Author.Tests.{ltb-true, ltb-false, le-leb, lt-leb}
 use lib.Dec.{leb, ltb}
-use lib.IntN.{ℤ, pos, negℤ, natAbs, _+ℤ_, _-ℤ_}
+use lib.IntN.{pos, negℤ, natAbs, _+ℤ_, _-ℤ_}
 use lib.Ieee.{Format, ones, hid, top, nanBits}
 use lib.Ieee.Bits.{nanBits-above}
 use Rattle.words.specs.Pick.{pick}

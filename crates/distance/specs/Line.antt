@@ -8,7 +8,6 @@ use lib.IntN.{pos, _+ℤ_}
 use lib.Ieee.{Float, Format, top, fits, ofBits, nanBits}
 use Rattle.words.specs.Tests.{_<·_, _≤·_, _=·_, _<ℤ?_}
 use Rattle.distance.specs.Distance.{placeS, distanceS}
-use Rattle.distance.specs.declared.Apart.{Apart}
 
 -- a pattern that is no NaN's
 abbrev pub Number : Format → ℕ → Type 0

@@ -10,7 +10,7 @@ use Rattle.words.specs.F64.{bits}
 use Rattle.exp.specs.Exp.{expS}
 use Rattle.tgamma.specs.Lanczos.{sS}
 use Rattle.tgamma.specs.Tgamma.{lanczosS}
-use Rattle.tgamma.proofs.Regions.{from-54, to184, Middle}
+use Rattle.tgamma.proofs.Regions.{from-54, Middle}
 use Rattle.tgamma.proofs.Formula.{yOf, rOf, lanczos-plus}
 use Rattle.signs.proofs.LanczosRange.{over-340, under100, r-range}
 use Rattle.signs.proofs.Correction.{small, large}
@@ -26,8 +26,7 @@ wider-100 = tt
 
 not-minus : (x : Float) → Middle x → lt x (bits 0) ≡ false
 unfolding ofBits le
-not-minus x i =
-    not-lt-of-le x (bits 0) (le-trans (bits 0) from-54 x tt (i .0))
+not-minus x i = not-lt-of-le x (bits 0) (le-trans (bits 0) from-54 x tt (i .0))
 
 pub lanczos-sign : (x : Float) → T (fits binary64 x) → Middle x → Signed false (lanczosS x 0)
 lanczos-sign x F i =

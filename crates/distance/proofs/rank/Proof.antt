@@ -1,7 +1,5 @@
 -- `distance::rank` meets its contract. Assumes nothing.
 use native.Mathlib.Nat.{le-of-lt}
-use native.Mathlib.Omega.{arith}
-use mathlib.Core.Path.{_∙_}
 use mathlib.Core.Bool.{true, false}
 use borrow.Author.Needs.{needs}
 use Rattle.distance.proofs.Shift.{shift}
