@@ -43,7 +43,9 @@ command -v "${native%% *}" >/dev/null || { apt-get update && apt-get install -y 
 awk -f host/kinds.awk kinds.txt >"$out/kinds.h"
 flags="-std=c99 -D_POSIX_C_SOURCE=200809L -O2 -Wall -Wextra -Wpedantic -Iinclude -I$out"
 # shellcheck disable=SC2086
-for name in test feed_test gateway distance_test; do $compile $flags -o "$out/$name" "host/$name.c" "$archive" "$(libm_of $compile)"; done
+for name in test feed_test gateway; do $compile $flags -o "$out/$name" "host/$name.c" "$archive"; done
+# shellcheck disable=SC2086
+$compile $flags -o "$out/distance_test" host/distance_test.c "$archive" "$(libm_of $compile)"
 # shellcheck disable=SC2086
 $native $flags -o "$out/requests" host/requests.c
 

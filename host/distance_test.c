@@ -1,8 +1,9 @@
 /*
  * distance_test: holds the entries of the distance to the C library's nextafter, which goes from a number to
- * the next one: walks of single steps across zero, from power to power and up to an infinity; the same
- * numbers added up along the whole line; what the formats say of long ways; and NaNs. Both widths go through
- * one text, since a double has every value of a float. The last line is 'N checks, M failed'.
+ * the next one: walks of single steps across every power of two, across zero and up to an infinity; to what
+ * the formats say of long ways; to the sum of the two ways between three numbers from anywhere on the line;
+ * and NaNs. Both widths go through one text, since a double has every value of a float. The last line is
+ * 'N checks, M failed'.
  */
 #include <float.h>
 #include <math.h>
@@ -24,7 +25,7 @@ static void check(int good, const char *what, double a, double b) {
 /* ---- the widths */
 
 struct width {
-    const char *name;
+    const char *name, *code_name;
     uint64_t (*distance)(double, double), (*code)(double, double);
     double (*next)(double, double);
     double least, least_normal, greatest;
@@ -42,14 +43,16 @@ static uint64_t code_f32(double a, double b) {
 static double next_f32(double x, double to) { return (double)nextafterf((float)x, (float)to); }
 
 static const struct width WIDTHS[] = {
-    {"f64", distance_f64, code_f64, next_f64, 0x1p-1074, DBL_MIN, DBL_MAX, 53, -1022, 1023},
-    {"f32", distance_f32, code_f32, next_f32, 0x1p-149, (double)FLT_MIN, (double)FLT_MAX, 24, -126, 127},
+    {"the distance, f64", "its code, f64", distance_f64, code_f64, next_f64,
+     0x1p-1074, DBL_MIN, DBL_MAX, 53, -1022, 1023},
+    {"the distance, f32", "its code, f32", distance_f32, code_f32, next_f32,
+     0x1p-149, (double)FLT_MIN, (double)FLT_MAX, 24, -126, 127},
 };
 
 /* Two numbers are so far apart, in either order. */
 static void apart(const struct width *w, double a, double b, uint64_t steps) {
     check(w->distance(a, b) == steps && w->distance(b, a) == steps, w->name, a, b);
-    check(w->code(a, b) == 0 && w->code(b, a) == 0, "its code", a, b);
+    check(w->code(a, b) == RVT_DONE && w->code(b, a) == RVT_DONE, w->code_name, a, b);
 }
 
 /* ---- steps */
@@ -111,13 +114,13 @@ static uint64_t noise(void) {
     return z ^ z >> 31;
 }
 
-/* A number of the width, of any size and sign, often a small one. */
+/* A number of the width, of any size and sign, in half of the cases a small one. */
 static double number(const struct width *w) {
     double x;
     do {
-        uint64_t bits = noise();
-        uint64_t sign = bits & (uint64_t)1 << 63;
-        uint64_t size = bits >> (1 + noise() % 60);
+        uint64_t sign = noise() << 63, size = noise() >> 1;
+        if (noise() % 2 == 0)
+            size >>= noise() % 63;
         x = w->digits == 53 ? rvt_of_bits_f64(sign | size)
                             : (double)rvt_of_bits_f32((uint32_t)(sign >> 32 | (size & 0x7FFFFFFF)));
     } while (isnan(x));
@@ -138,32 +141,30 @@ static void sums(const struct width *w) {
     }
 }
 
-/* ---- NaNs: every payload of one bit, quiet or not, of both signs, on either side */
+/* ---- NaNs: every payload of one bit, on either side of a zero, a number, an infinity or a NaN, in all signs */
 static void nan_f64(uint64_t nan, uint64_t x) {
-    check(rvt_distance(nan, x) == 0 && rvt_distance(x, nan) == 0, "of a NaN, f64", rvt_of_bits_f64(x), 0);
+    double a = rvt_of_bits_f64(nan), b = rvt_of_bits_f64(x);
+    check(rvt_distance(nan, x) == 0 && rvt_distance(x, nan) == 0, "the distance of a NaN, f64", a, b);
     check(rvt_distance_code(nan, x) == RVT_NO_DISTANCE && rvt_distance_code(x, nan) == RVT_NO_DISTANCE,
-          "its code, f64", rvt_of_bits_f64(x), 0);
+          "the code of a NaN, f64", a, b);
 }
 
 static void nan_f32(uint32_t nan, uint32_t x) {
-    double value = (double)rvt_of_bits_f32(x);
-    check(rvt_distancef(nan, x) == 0 && rvt_distancef(x, nan) == 0, "of a NaN, f32", value, 0);
+    double a = (double)rvt_of_bits_f32(nan), b = (double)rvt_of_bits_f32(x);
+    check(rvt_distancef(nan, x) == 0 && rvt_distancef(x, nan) == 0, "the distance of a NaN, f32", a, b);
     check(rvt_distancef_code(nan, x) == RVT_NO_DISTANCE && rvt_distancef_code(x, nan) == RVT_NO_DISTANCE,
-          "its code, f32", value, 0);
+          "the code of a NaN, f32", a, b);
 }
 
-static void nans(void) {
-    const uint64_t doubles[] = {0, 1, 0x3FF0000000000000, 0x7FEFFFFFFFFFFFFF, 0x7FF0000000000000, 0x7FF8000000000000,
-                                0xFFFFFFFFFFFFFFFF};
-    const uint32_t floats[] = {0, 1, 0x3F800000, 0x7F7FFFFF, 0x7F800000, 0x7FC00000, 0xFFFFFFFF};
-    for (int sign = 0; sign < 2; sign++)
-        for (size_t i = 0; i < sizeof doubles / sizeof *doubles; i++) {
-            uint64_t minus = (uint64_t)sign << 63;
-            for (int k = 0; k < 52; k++)
-                nan_f64(minus | 0x7FF0000000000000 | (uint64_t)1 << k, doubles[i] ^ minus);
-            for (int k = 0; k < 23; k++)
-                nan_f32((uint32_t)(minus >> 32) | 0x7F800000 | (uint32_t)1 << k, floats[i] ^ (uint32_t)(minus >> 32));
-        }
+static void nans(uint64_t sign, uint64_t other_sign) {
+    const uint64_t doubles[] = {0, 1, 0x3FF0000000000000, 0x7FEFFFFFFFFFFFFF, 0x7FF0000000000000, 0x7FF8000000000000};
+    const uint32_t floats[] = {0, 1, 0x3F800000, 0x7F7FFFFF, 0x7F800000, 0x7FC00000};
+    for (size_t i = 0; i < sizeof doubles / sizeof *doubles; i++) {
+        for (int k = 0; k < 52; k++)
+            nan_f64(sign << 63 | 0x7FF0000000000000 | (uint64_t)1 << k, other_sign << 63 | doubles[i]);
+        for (int k = 0; k < 23; k++)
+            nan_f32((uint32_t)sign << 31 | 0x7F800000 | (uint32_t)1 << k, (uint32_t)other_sign << 31 | floats[i]);
+    }
 }
 
 int main(void) {
@@ -172,7 +173,8 @@ int main(void) {
         formats(&WIDTHS[i]);
         sums(&WIDTHS[i]);
     }
-    nans();
+    for (uint64_t signs = 0; signs < 4; signs++)
+        nans(signs % 2, signs / 2);
     printf("%lu checks, %lu failed\n", checks, failures);
     return failures != 0;
 }

@@ -55,9 +55,11 @@ static void floats(void) {
 
 static void distances(void) {
     double zero = 0.0, nan = zero / zero;
+    float zero_f32 = 0.0f, nan_f32 = zero_f32 / zero_f32;
     check(rvt_distance_f64(2.0, 1.0) == 0x10000000000000, "from 2 to 1");
     check(rvt_distance_f64(-0.0, 0.0) == 0 && rvt_distance_f64(nan, 1.0) == 0, "the zeros, and a NaN");
     check(rvt_distancef_f32(1.0f, 2.0f) == 0x800000 && rvt_distancef_f32(-0.0f, 0.0f) == 0, "the same in float");
+    check(rvt_distancef_f32(1.0f, nan_f32) == 0, "and a NaN of it");
 }
 
 static void batch(void) {

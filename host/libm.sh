@@ -1,11 +1,12 @@
 # libm.sh, read by the other scripts of this folder (. host/libm.sh): what a compiler is told to link the C library's mathematics, for the
 # test that goes by nextafter.
 
-# Debian's libm.a of a cross compiler can be a list of files by the paths of the other machine; the archive that it means stands beside it.
+# The libm.a of Debian's cross compiler can be a list of files by the paths of the other machine, which a static link does not find; the
+# archive that it means stands beside it.
 libm_of() { # COMPILER..
-    found=$(find "$(dirname "$("$@" -print-file-name=libm.a)")" -maxdepth 1 -name 'libm-[0-9]*.a' 2>/dev/null | head -n 1)
-    case $*:$found in
-    *-static*:?*) echo "$found" ;;
-    *) echo -lm ;;
+    case " $* " in
+    *' -static '*) found=$(find "$(dirname "$("$@" -print-file-name=libm.a)")" -maxdepth 1 -name 'libm-[0-9]*.a' | head -n 1) ;;
+    *) found='' ;;
     esac
+    echo "${found:--lm}"
 }

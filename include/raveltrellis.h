@@ -91,9 +91,9 @@ enum rvt_kind {
 #define RVT_REPORT_BYTES 24
 #define RVT_FEED_BYTES 32
 
-/* The codes that a call stops with. */
+/* The codes that a call ends with. */
 enum rvt_stop {
-    RVT_DONE = 0,         /* the requests, or the piece, are used up */
+    RVT_DONE = 0,         /* the requests, or the piece, are used up; both floats are numbers */
     RVT_UNKNOWN = 1,      /* the kind at the front is not in the table */
     RVT_CUT = 2,          /* the kind is known, and its body is incomplete */
     RVT_FULL = 3,         /* the record is whole, and its answer is longer than the room left */
@@ -161,9 +161,9 @@ uint64_t rvt_feed_close(uint8_t *feed, size_t feed_length);
 /*
  * How far two floats of one width lie apart, from their bits: the number of steps from one to the other
  * along the representable numbers of that width. -0 and +0 are one place, and each infinity is one step past
- * the largest finite number; so the least positive number and the least negative one are 2 apart. It is 0
- * exactly for equal numbers, the same in either order, and never shorter by way of a third number. A NaN has
- * no place: then the distance is 0, and its code RVT_NO_DISTANCE; else the code is 0.
+ * the largest finite number; so the numbers next to zero on its two sides are 2 apart. It is 0 exactly for
+ * equal numbers, the same in either order, and never shorter by way of a third number. A NaN has no place:
+ * then the distance is 0, and its code RVT_NO_DISTANCE; else the code is RVT_DONE.
  */
 uint64_t rvt_distance(uint64_t a, uint64_t b);
 uint64_t rvt_distance_code(uint64_t a, uint64_t b);

@@ -2,16 +2,15 @@
 //! width. It is worked out from the values alone, by how far apart the numbers of a binade lie, and looks at
 //! no bit of a pattern; so it shares nothing with the port, which counts by patterns.
 
-use crate::patterns::{Patterns, Width};
+use crate::patterns::{power_of_two, Patterns, Width};
 use crate::random::Random;
 
-/// The code of a distance that a NaN has none of.
+/// The code of a NaN's distance, which is none.
 const NO_DISTANCE: u64 = 4;
 
 /// 2^k x, where that is a number of f64: in two steps, since 2^k need be none.
 fn scaled(x: f64, k: i32) -> f64 {
-    let power = |k: i32| f64::from_bits(((1023 + k) as u64) << 52);
-    x * power(k / 2) * power(k - k / 2)
+    x * power_of_two(k / 2) * power_of_two(k - k / 2)
 }
 
 impl Width {
@@ -89,14 +88,20 @@ pub fn answer(width: Width, a: u64, b: u64) -> (u64, u64) {
     distance(width, a, b).map_or((0, NO_DISTANCE), |d| (d, 0))
 }
 
-/// How far apart two differing answers are, in words.
+/// How far apart the values of two answers are, in words behind a comma; nothing where they are the same.
 pub fn told(width: Width, port: u64, rust: u64) -> String {
     match distance(width, port, rust) {
-        Some(0) => "zeros of other signs".to_string(),
-        Some(1) => "1 step apart".to_string(),
-        Some(steps) => format!("{steps} steps apart"),
-        None => "one of them a NaN".to_string(),
+        _ if port == rust => String::new(),
+        Some(0) => ", zeros of other signs".to_string(),
+        Some(1) => ", 1 step apart".to_string(),
+        Some(steps) => format!(", {steps} steps apart"),
+        None => ", a NaN among them".to_string(),
     }
+}
+
+/// A number of up to 63 bits, each length as likely.
+fn short(random: &mut Random) -> u64 {
+    random.next() >> (1 + random.below(63))
 }
 
 /// Pairs of patterns: every pair of the specials, and random ones.
@@ -132,25 +137,24 @@ impl Pairs {
         self.random(random)
     }
 
-    /// A pattern, and another or a special one, or one a few bits away, of either sign.
+    /// Two patterns: any two, one of them special, two small sizes, or one and what stands up to a random
+    /// number of patterns from it, with its sign or the other.
     pub fn random(&self, random: &mut Random) -> (u64, u64) {
-        let bits = self.width.sign_bit() * 2 - 1;
+        let sign_bit = self.width.sign_bit();
+        let bits = sign_bit | (sign_bit - 1);
+        let sign = random.next() & sign_bit;
         let a = self.patterns.random(random);
-        let sign = random.next() & self.width.sign_bit();
         let special = self.specials[random.below(self.specials.len() as u64) as usize];
-        let away = random.next() >> (1 + random.below(63));
+        let (away, other) = (short(random), short(random));
         match random.below(8) {
             0 => (a, random.next() & bits),
             1 => (a, self.patterns.random(random)),
             2 => (a, special),
             3 => (special, a),
-            4 => (special, special.wrapping_add(away) & bits ^ sign),
-            5 => (
-                away & bits,
-                sign ^ (random.next() >> (1 + random.below(63))) & bits,
-            ),
-            6 => (a, a.wrapping_sub(away) & bits ^ sign),
-            _ => (a, a.wrapping_add(away) & bits ^ sign),
+            4 => (special, (special.wrapping_add(away) & bits) ^ sign),
+            5 => (away & bits, (other & bits) ^ sign),
+            6 => (a, (a.wrapping_sub(away) & bits) ^ sign),
+            _ => (a, (a.wrapping_add(away) & bits) ^ sign),
         }
     }
 }
@@ -181,16 +185,16 @@ mod tests {
     }
 
     #[test]
-    fn an_infinity_is_one_step_past_the_greatest_number() {
+    fn an_infinity_is_one_step_past_the_greatest_finite_number() {
         assert_eq!(double(f64::MAX, f64::INFINITY), Some(1));
         assert_eq!(single(f32::MIN, f32::NEG_INFINITY), Some(1));
         assert_eq!(
             double(f64::NEG_INFINITY, f64::INFINITY),
-            Some(2 * 2047 << 52)
+            Some((2 * 2047) << 52)
         );
         assert_eq!(
             single(f32::NEG_INFINITY, f32::INFINITY),
-            Some(2 * 255 << 23)
+            Some((2 * 255) << 23)
         );
     }
 
@@ -227,7 +231,9 @@ mod tests {
     fn neighbours_are_a_step_apart() {
         for width in WIDTHS {
             let sign = width.sign_bit();
-            for centre in Patterns::new(width).systematic {
+            let mut centres = Patterns::new(width).systematic;
+            centres.retain(|&centre| !width.value(centre).is_nan());
+            for centre in centres {
                 let size = centre & (sign - 1);
                 let sizes = size.saturating_sub(2)..=size + 2;
                 let mut window: Vec<u64> = sizes.flat_map(|n| [n, n + sign]).collect();

@@ -135,12 +135,18 @@ fn value_width(leaf: u64) -> Option<Width> {
     }
 }
 
-/// How two differing answers of a leaf differ, in words.
+/// How two answers of a leaf differ, in words behind a comma; nothing where they are no floats.
 pub fn told(leaf: u64, port: u64, rust: u64) -> String {
+    let low = |n: u64| n & 0xffff_ffff;
     match value_width(leaf) {
-        Some(Width::Single) if port >> 32 != rust >> 32 => ", another sign".to_string(),
-        Some(width) => format!(", {}", distance::told(width, port, rust)),
-        None => String::new(),
+        Some(Width::Double) => distance::told(Width::Double, port, rust),
+        Some(Width::Single) if leaf == 43 && port - low(port) != rust - low(rust) => {
+            distance::told(Width::Single, low(port), low(rust)) + ", another sign"
+        }
+        Some(Width::Single) if port - low(port) == rust - low(rust) => {
+            distance::told(Width::Single, low(port), low(rust))
+        }
+        _ => String::new(),
     }
 }
 
@@ -360,13 +366,15 @@ mod tests {
     fn how_far_apart() {
         let (one, two) = (1f64.to_bits(), 2f64.to_bits());
         assert_eq!(told(84, one, one + 3), ", 3 steps apart");
-        assert_eq!(told(84, NAN, one), ", one of them a NaN");
+        assert_eq!(told(84, NAN, one), ", a NaN among them");
         assert_eq!(told(41, 1, 0x8000_0000), ", 1 step apart");
         assert_eq!(
             told(43, 1 << 32 | 7, 0xffff_ffff << 32 | 7),
             ", another sign"
         );
         assert_eq!(told(43, 1 << 32 | 7, 1 << 32 | 5), ", 2 steps apart");
+        assert_eq!(told(43, 7, 1 << 32 | 6), ", 1 step apart, another sign");
+        assert_eq!(told(41, UNKNOWN, 7), "");
         assert_eq!(told(96, 7, 5), "");
         let request = request(80, two, 0);
         assert_eq!(

@@ -155,11 +155,13 @@ fn part_of(function: &Function, from: u64, upto: u64, pattern: impl Fn(u64) -> u
         let (port, rust) = ((function.port)(x), (function.rust)(x));
         tally.count(port == rust, || {
             let name = function.name;
-            let told = match port.0 == rust.0 {
-                true => "another sign".to_string(),
-                false => distance::told(function.width, port.0, rust.0),
+            let told = distance::told(function.width, port.0, rust.0);
+            let sign = if port.1 == rust.1 {
+                ""
+            } else {
+                ", another sign"
             };
-            format!("{name} of {x:#x}: port {port:x?}, Rust {rust:x?}, {told}")
+            format!("{name} of {x:#x}: port {port:x?}, Rust {rust:x?}{told}{sign}")
         });
         progress.at(place - from);
     }

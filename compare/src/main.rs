@@ -82,24 +82,24 @@ fn main() -> ExitCode {
 fn run(words: &[&str]) -> io::Result<u8> {
     match words {
         ["leaves", seed, count, file @ ..] => {
-            compare_leaves(number(seed)?, number(count)?, &program("leaves", file)?)
+            compare_leaves(number(seed)?, count_of(count)?, &program("leaves", file)?)
         }
         #[cfg(feature = "linked")]
-        ["linked", seed, count] => Ok(linked::compare(number(seed)?, number(count)?)),
+        ["linked", seed, count] => Ok(linked::compare(number(seed)?, count_of(count)?)),
         #[cfg(feature = "linked")]
-        ["feed", seed, count] => Ok(feeding::compare(number(seed)?, number(count)?)),
+        ["feed", seed, count] => Ok(feeding::compare(number(seed)?, count_of(count)?)),
         #[cfg(feature = "linked")]
-        ["distance", seed, count] => Ok(apart::compare(number(seed)?, number(count)?)),
+        ["distance", seed, count] => Ok(apart::compare(number(seed)?, count_of(count)?)),
         ["exhaustive-f32", file @ ..] => compare_all_singles(&program("leaves", file)?),
         ["stream", seed, count, file @ ..] => {
-            compare_streams(number(seed)?, number(count)?, &program("answers", file)?)
+            compare_streams(number(seed)?, count_of(count)?, &program("answers", file)?)
         }
         ["stored"] => stored::compare(),
         ["constants", libm @ ..] => compare_constants(libm),
         ["sample", seed, requests, answers] => write_sample(number(seed)?, requests, answers),
         ["requests", seed, count] => {
             let random = &mut Random::at(number(seed)?, 0);
-            io::stdout().write_all(&Streams::new().random(random, number(count)?))?;
+            io::stdout().write_all(&Streams::new().random(random, count_of(count)?))?;
             Ok(0)
         }
         ["answer"] => {
@@ -121,6 +121,14 @@ fn run(words: &[&str]) -> io::Result<u8> {
 fn number(word: &str) -> io::Result<u64> {
     word.parse()
         .map_err(|_| failure(format!("{word} is not a number")))
+}
+
+/// A count that no sum with the systematic ones overflows, and no run comes to the end of.
+fn count_of(word: &str) -> io::Result<u64> {
+    match number(word)? {
+        count if count < 1 << 48 => Ok(count),
+        _ => Err(failure(format!("{word} is too many"))),
+    }
 }
 
 fn program(name: &'static str, file: &[&str]) -> io::Result<Program> {

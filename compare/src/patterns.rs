@@ -17,7 +17,7 @@ fn between_multiples(k: u32) -> f64 {
     (f64::from(k) + 0.5) * std::f64::consts::LN_2
 }
 
-fn power_of_two(k: i32) -> f64 {
+pub fn power_of_two(k: i32) -> f64 {
     f64::from_bits(((1023 + k) as u64) << 52)
 }
 

@@ -17,33 +17,9 @@ const PAIRS: usize = 400;
 pub fn requests(seed: u64) -> Vec<[u8; 24]> {
     let mut list = Vec::new();
     for leaf in &LEAVES {
-        let patterns = Patterns::new(leaf.width);
-        let mut random = Random::at(seed, leaf.number);
-        if let Second::Power = leaf.second {
-            let powers = Powers::new();
-            list.extend((0..PAIRS).map(|_| {
-                let (a, b) = powers.random(&mut random);
-                request(leaf.number, a, b)
-            }));
-            continue;
-        }
-        if let Second::Beside = leaf.second {
-            let pairs = Pairs::new(leaf.width);
-            list.extend((0..pairs.systematic() + RANDOM as u64).map(|place| {
-                let (a, b) = pairs.pair(place, &mut random);
-                request(leaf.number, a, b)
-            }));
-            continue;
-        }
-        let mut arguments = leaf.width.specials();
-        if looks_at_cuts(leaf) {
-            arguments.extend(leaf.width.around(&leaf.width.cuts()));
-        }
-        arguments.extend((0..RANDOM).map(|_| patterns.random(&mut random)));
-        for a in arguments {
-            let b = patterns.second(leaf.second, a, &mut random);
-            list.push(request(leaf.number, a, b));
-        }
+        let random = &mut Random::at(seed, leaf.number);
+        let questions = questions(leaf, random);
+        list.extend(questions.iter().map(|&(a, b)| request(leaf.number, a, b)));
     }
     for number in [
         0,
@@ -67,6 +43,27 @@ pub fn requests(seed: u64) -> Vec<[u8; 24]> {
         list.push(request(number, 1, 1));
     }
     list
+}
+
+/// The arguments that a leaf is asked.
+fn questions(leaf: &Leaf, random: &mut Random) -> Vec<(u64, u64)> {
+    if let Second::Power = leaf.second {
+        let powers = Powers::new();
+        return (0..PAIRS).map(|_| powers.random(random)).collect();
+    }
+    if let Second::Beside = leaf.second {
+        let pairs = Pairs::new(leaf.width);
+        let places = 0..pairs.systematic() + RANDOM as u64;
+        return places.map(|place| pairs.pair(place, random)).collect();
+    }
+    let patterns = Patterns::new(leaf.width);
+    let mut arguments = leaf.width.specials();
+    if looks_at_cuts(leaf) {
+        arguments.extend(leaf.width.around(&leaf.width.cuts()));
+    }
+    arguments.extend((0..RANDOM).map(|_| patterns.random(random)));
+    let pair = |a| (a, patterns.second(leaf.second, a, random));
+    arguments.into_iter().map(pair).collect()
 }
 
 /// floor, the whole part, narrowing, exp, log and the functions have cuts of their own; the words of a size

@@ -151,9 +151,7 @@ fn told(kind: &Kind, port: &[u8], rust: &[u8]) -> String {
         } else {
             Width::Single
         };
-        if port != rust {
-            words += &format!(", {}", distance::told(width, port, rust));
-        }
+        words += &distance::told(width, port, rust);
         at = value.end;
     }
     if port[at..] != rust[at..] {

@@ -18,7 +18,7 @@ pub zeros-together : (distanceS binary64 0 0x8000000000000000 ≡ apart 0) × (d
 unfolding distanceS placeS nanBits
 zeros-together = (refl, refl)
 
--- the largest number and the infinity behind it, and from one infinity to the other
+-- the largest finite number and the infinity behind it, and from one infinity to the other
 pub to-infinity : (distanceS binary64 0x7FEFFFFFFFFFFFFF 0x7FF0000000000000 ≡ apart 1) × (distanceS binary32 0xFF7FFFFF 0xFF800000 ≡ apart 1)
 unfolding distanceS placeS nanBits
 to-infinity = (refl, refl)

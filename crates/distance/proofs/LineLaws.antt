@@ -11,7 +11,7 @@ use lib.Ieee.Bits.{is-true, nanBits-above, nanBits-is, ofBits-fits, ofBits-toBit
 use Rattle.rounding.proofs.BitOrder.{endless}
 use Rattle.words.specs.Pick.{pick}
 use Rattle.distance.specs.Line.{Number, Next, Steps}
-use Rattle.distance.proofs.PlaceLaws.{number-size, rank, lt-rank, rank-eq, eq-rank}
+use Rattle.distance.proofs.PlaceLaws.{number-size, middle, rank, lt-rank, rank-eq, eq-rank}
 
 module _ (f : Format) where
   -- ---- a number at each rank
@@ -23,11 +23,11 @@ module _ (f : Format) where
       go binary64 = omega arith
 
   -- a number's rank is between the infinities'
-  within : (b : ℕ) → Number f b → (top f ≤ rank f b + endless f) × (rank f b ≤ top f + endless f)
+  within : (b : ℕ) → Number f b → (middle ≤ rank f b + endless f) × (rank f b ≤ middle + endless f)
   within b B = go (leb (top f) b)
     where
-      go : (s : Bool) → (top f ≤ pick s (top f - b % top f) (top f + b % top f) + endless f)
-          × (pick s (top f - b % top f) (top f + b % top f) ≤ top f + endless f)
+      go : (s : Bool) → (middle ≤ pick s (middle - b % top f) (middle + b % top f) + endless f)
+          × (pick s (middle - b % top f) (middle + b % top f) ≤ middle + endless f)
       go true = (omega (arith, number-size f b B), omega arith)
       go false = (omega arith, omega (arith, number-size f b B))
 
@@ -38,28 +38,28 @@ module _ (f : Format) where
   abbrev Ranked : ℕ → ℕ → Type 0
   Ranked r b = Number f b × (rank f b ≡ r)
 
-  upper : (n : ℕ) → n ≤ endless f → Ranked (top f + n) n
+  upper : (n : ℕ) → n ≤ endless f → Ranked (middle + n) n
   upper n h =
       let l : n < top f = lt-of-le-of-lt h ends in
       let e : n % top f ≡ n = mod-eq-of-lt l in
       (by-size n n e h, rw (lt-leb (top f) n l, e))
 
-  lower : (n : ℕ) → n ≤ endless f → Ranked (top f - n) (top f + n)
+  lower : (n : ℕ) → n ≤ endless f → Ranked (middle - n) (top f + n)
   lower n h =
       let e : (top f + n) % top f ≡ n = add-mod-left (top f) n ∙ mod-eq-of-lt (lt-of-le-of-lt h ends) in
       (by-size (top f + n) n e h, rw (le-leb (top f) (top f + n) (omega arith), e))
 
-  at-rank : (r : ℕ) → top f ≤ r + endless f → r ≤ top f + endless f → (b : ℕ) × Ranked r b
-  at-rank r l h = go (ltb r (top f)) refl
+  at-rank : (r : ℕ) → middle ≤ r + endless f → r ≤ middle + endless f → (b : ℕ) × Ranked r b
+  at-rank r l h = go (ltb r middle) refl
     where
-      go : (t : Bool) → ltb r (top f) ≡ t → (b : ℕ) × Ranked r b
+      go : (t : Bool) → ltb r middle ≡ t → (b : ℕ) × Ranked r b
       go true e =
-          let k = ltb-true r (top f) e in
-          let n = top f - r in
+          let k = ltb-true r middle e in
+          let n = middle - r in
           (top f + n, subst (λ (z : ℕ). Ranked z (top f + n)) (omega arith) (lower n (omega arith)))
       go false e =
-          let k = ltb-false r (top f) e in
-          let n = r - top f in
+          let k = ltb-false r middle e in
+          let n = r - middle in
           (n, subst (λ (z : ℕ). Ranked z n) (omega arith) (upper n (omega arith)))
 
   -- ---- a pattern of each number
@@ -96,6 +96,7 @@ module _ (f : Format) where
 
   pub rank-next : (a b : ℕ) → Number f a → Number f b → rank f b ≡ rank f a + 1 → Next f (ofBits f a) (ofBits f b)
   rank-next a b A B h = record {
+    held = is-true (fits f (ofBits f b)) (ofBits-fits f b);
     above = lt-rank f a b A B ∙ lt-ltb (rank f a) (rank f b) (omega arith);
     between = λ z F l k.
         let p = pattern-of z F (above-number (ofBits f a) z l) in
@@ -112,12 +113,12 @@ module _ (f : Format) where
   steps-rank zero a b A B h = let e = eq-rank f a b A B h in omega arith
   steps-rank (suc n) a b A B h =
       let z = h .0 in
-      let next = h .2 in
-      let p = pattern-of z (h .1) (above-number (ofBits f a) z (next .above)) in
+      let next = h .1 in
+      let p = pattern-of z (next .held) (above-number (ofBits f a) z (next .above)) in
       let c = p .0 in
       let e = p .2 in
       let one = next-rank a c A (p .1) (subst (λ (y : Float). Next f (ofBits f a) y) (sym e) next) in
-      let more = steps-rank n c b (p .1) B (subst (λ (y : Float). Steps f n y (ofBits f b)) (sym e) (h .3)) in
+      let more = steps-rank n c b (p .1) B (subst (λ (y : Float). Steps f n y (ofBits f b)) (sym e) (h .2)) in
       omega arith
 
   pub rank-steps : (n a b : ℕ) → Number f a → Number f b → rank f b ≡ rank f a + n → Steps f n (ofBits f a) (ofBits f b)
@@ -126,4 +127,4 @@ module _ (f : Format) where
       let z = at-rank (rank f a + 1) (omega (arith, within a A .0)) (omega (arith, within b B .1)) in
       let c = z .0 in
       let C = z .1 .0 in
-      (ofBits f c, is-true (fits f (ofBits f c)) (ofBits-fits f c), rank-next a c A C (z .1 .1), rank-steps n c b C B (omega (arith, z .1 .1)))
+      (ofBits f c, rank-next a c A C (z .1 .1), rank-steps n c b C B (omega (arith, z .1 .1)))

@@ -1,13 +1,13 @@
 -- Numbers are in the order of their places. A pattern b that is no NaN's stands for a value with a sign, b's, and a size of so many steps from
--- zero, b without the sign; a rank is the place, shifted above zero. Assumes nothing.
+-- zero, b without the sign; a rank is the place, counted from below. Assumes nothing.
 use mathlib.Core.Path.{_≡_, refl, sym, ap, _∙_, subst}
 use mathlib.Core.Logic.{inl, inr}
 use mathlib.Core.Bool.{Bool, true, false, not}
 use Prim.Native.Nat.{ℕ, _+_, _-_, _*_, _/_, _%_, _^_, _≤_, _<_}
-use native.Mathlib.Nat.{eq-or-lt-of-le, eq-zero-or-pos, le-of-lt, mod-lt, mul-lt-mul-of-pos-right, mul-div-cancel, mul-mod-left, eq-of-mul-eq-mul-right, zero-mul}
+use native.Mathlib.Nat.{eq-or-lt-of-le, eq-zero-or-pos, le-of-lt, lt-of-lt-of-le, mod-lt, mul-lt-mul-of-pos-right, mul-div-cancel, mul-mod-left, eq-of-mul-eq-mul-right, zero-mul}
 use native.Mathlib.Omega.{arith}
 use borrow.Author.Tests.{ltb-true, ltb-false, eq-eqb}
-use lib.Dec.{T, leb, ltb}
+use lib.Dec.{T, leb, ltb, lit<, lit≤}
 use lib.IntN.{ℤ, pos, _+ℤ_}
 use lib.Pow.{pow-pos}
 use lib.Ieee.{Float, nan, inf, fin, Format, binary32, binary64, low, hid, ones, top, up, down, level, lt, eq, le, ofFields, ofBits}
@@ -15,7 +15,7 @@ use lib.Ieee.Bits.{is-true, nanBits-above}
 use lib.Ieee.Exact.{HasValue}
 use Rattle.rounding.proofs.Signed.{P, N, Le, signed-of-le, value-finite}
 use Rattle.rounding.proofs.Order.{lt-le, le-of-not-lt, not-lt-of-le, eq-values, eq-le, eq-turned}
-use Rattle.rounding.proofs.BitOrder.{bitVal, hid-pos, val-lt, endless, bits-open}
+use Rattle.rounding.proofs.BitOrder.{bitVal, hid-pos, val-lt, val-zero, val-pos, endless, bits-open}
 use Rattle.words.specs.Pick.{pick}
 use Rattle.words.proofs.PatternLaws.{pattern-value, digits-rest}
 use Rattle.distance.specs.Distance.{placeS}
@@ -53,13 +53,6 @@ stands f b h =
     elim (eq-or-lt-of-le (number-size f b h)) [ inl e ↦ beyond e (of-infinity f b e) | inr l ↦ within l (pattern-value f b l) ]
 
 -- ---- order by signed sizes
-val-zero : (f : Format) → bitVal f 0 ≡ 0
-val-zero binary32 = refl
-val-zero binary64 = refl
-
-val-pos : (f : Format) (n : ℕ) → 0 < n → 0 < bitVal f n
-val-pos f n h = subst (λ (z : ℕ). z < bitVal f n) (val-zero f) (val-lt f 0 n h)
-
 endless-pos : (f : Format) → 0 < endless f
 endless-pos binary32 = omega arith
 endless-pos binary64 = omega arith
@@ -163,19 +156,20 @@ eq-by-size f x y true false n m a b h = both-zero f x y true false n m a b (omeg
 
 -- ---- ranks
 
--- the place, shifted by the weight of the sign
+-- the rank of zero, in the code and here
+abbrev pub middle : ℕ
+middle = 0x8000000000000000
+
+-- the place, counted from so far below zero
 abbrev pub rank : Format → ℕ → ℕ
-rank f b = pick (leb (top f) b) (top f - b % top f) (top f + b % top f)
+rank f b = pick (leb (top f) b) (middle - b % top f) (middle + b % top f)
 
-top-pos : (f : Format) → 0 < top f
-top-pos binary32 = omega arith
-top-pos binary64 = omega arith
+small : (f : Format) (b : ℕ) → b % top f ≤ middle
+small binary32 b = le-of-lt (lt-of-lt-of-le (mod-lt b (lit< tt)) (lit≤ tt))
+small binary64 b = le-of-lt (mod-lt b (lit< tt))
 
-size-top : (f : Format) (b : ℕ) → b % top f ≤ top f
-size-top f b = le-of-lt (mod-lt b (top-pos f))
-
-pub rank-is : (f : Format) (b : ℕ) → pos (rank f b) ≡ placeS f b +ℤ pos (top f)
-rank-is f b = shift (top f) (b % top f) (leb (top f) b) (size-top f b) ∙ ap (λ (z : ℤ). z +ℤ pos (top f)) (sym (place-is f b))
+pub rank-is : (f : Format) (b : ℕ) → pos (rank f b) ≡ placeS f b +ℤ pos middle
+rank-is f b = shift middle (b % top f) (leb (top f) b) (small f b) ∙ ap (λ (z : ℤ). z +ℤ pos middle) (sym (place-is f b))
 
 module _ (K n m : ℕ) (h : n ≤ K) (k : m ≤ K) where
   less-sizes : (s t : Bool) → pick s (K - n) (K + n) < pick t (K - m) (K + m) → P s n + N t m < P t m + N s n
@@ -194,12 +188,12 @@ module _ (f : Format) where
   below-by-rank : (a b : ℕ) → Number f a → Number f b → rank f a < rank f b → T (lt (ofBits f a) (ofBits f b))
   below-by-rank a b A B h =
       below-by-size f _ _ _ _ _ _ (stands f a A) (stands f b B)
-      (less-sizes (top f) (a % top f) (b % top f) (size-top f a) (size-top f b) (leb (top f) a) (leb (top f) b) h)
+      (less-sizes middle (a % top f) (b % top f) (small f a) (small f b) (leb (top f) a) (leb (top f) b) h)
 
   eq-by-rank : (a b : ℕ) → Number f a → Number f b → rank f a ≡ rank f b → T (eq (ofBits f a) (ofBits f b))
   eq-by-rank a b A B h =
       eq-by-size f _ _ _ _ _ _ (stands f a A) (stands f b B)
-      (same-sizes (top f) (a % top f) (b % top f) (size-top f a) (size-top f b) (leb (top f) a) (leb (top f) b) h)
+      (same-sizes middle (a % top f) (b % top f) (small f a) (small f b) (leb (top f) a) (leb (top f) b) h)
 
   -- ranks are in the order of the numbers
   pub lt-rank : (a b : ℕ) → Number f a → Number f b → lt (ofBits f a) (ofBits f b) ≡ ltb (rank f a) (rank f b)

@@ -5,14 +5,14 @@ use Prim.Native.Nat.{ℕ, _+_, _-_, _≤_}
 use native.Mathlib.Omega.{arith}
 use lib.Dec.{T}
 use lib.IntN.{pos, natAbs, _+ℤ_, _-ℤ_}
-use lib.Ieee.{Format, binary32, binary64, top, nanBits}
+use lib.Ieee.{Format, binary32, binary64, nanBits}
 use Rattle.words.specs.Pick.{pick}
 use Rattle.distance.specs.Distance.{placeS, distanceS}
-use Rattle.distance.specs.Line.{Number, AtZero, InOrder, NextPlace, CountsSteps, ZeroForSame, EitherOrder, NoShortcut}
+use Rattle.distance.specs.Line.{Number, AtZero, InOrder, NextPlace, RefusesNan, CountsSteps, ZeroForSame, EitherOrder, NoShortcut}
 use Rattle.distance.specs.declared.Apart.{Apart}
 use Rattle.distance.proofs.Shift.{size-is, size-turned, size-through, shift-difference, shift-eq, eq-shift, shift-plus, shift-less}
 use Rattle.distance.proofs.SpotLaws.{distance-is}
-use Rattle.distance.proofs.PlaceLaws.{rank, rank-is, lt-rank, rank-eq, le-rank, eq-rank}
+use Rattle.distance.proofs.PlaceLaws.{middle, rank, rank-is, lt-rank, rank-eq, le-rank, eq-rank}
 use Rattle.distance.proofs.LineLaws.{next-rank, rank-next, steps-rank, rank-steps}
 
 pub at-zero : (f : Format) → AtZero f
@@ -22,23 +22,23 @@ at-zero binary64 = (refl, refl)
 
 module _ (f : Format) where
   same-rank : (a b : ℕ) → placeS f a ≡ placeS f b → rank f a ≡ rank f b
-  same-rank a b = shift-eq (top f) (rank f a) (rank f b) (placeS f a) (placeS f b) (rank-is f a) (rank-is f b)
+  same-rank a b = shift-eq middle (rank f a) (rank f b) (placeS f a) (placeS f b) (rank-is f a) (rank-is f b)
 
   same-place : (a b : ℕ) → rank f a ≡ rank f b → placeS f a ≡ placeS f b
-  same-place a b = eq-shift (top f) (rank f a) (rank f b) (placeS f a) (placeS f b) (rank-is f a) (rank-is f b)
+  same-place a b = eq-shift middle (rank f a) (rank f b) (placeS f a) (placeS f b) (rank-is f a) (rank-is f b)
 
   pub in-order : InOrder f
   in-order a b A B = (
-    lt-rank f a b A B ∙ sym (shift-less (top f) (rank f a) (rank f b) (placeS f a) (placeS f b) (rank-is f a) (rank-is f b)),
+    lt-rank f a b A B ∙ sym (shift-less middle (rank f a) (rank f b) (placeS f a) (placeS f b) (rank-is f a) (rank-is f b)),
     (λ h. same-place a b (eq-rank f a b A B h), λ h. rank-eq f a b A B (same-rank a b h)),
   )
 
   pub next-place : NextPlace f
   next-place a b A B = (
-    λ h. eq-shift (top f) (rank f b) (rank f a + 1) (placeS f b) (placeS f a +ℤ pos 1) (rank-is f b)
-        (shift-plus (top f) (rank f a) 1 (placeS f a) (rank-is f a)) (next-rank f a b A B h),
-    λ h. rank-next f a b A B (shift-eq (top f) (rank f b) (rank f a + 1) (placeS f b) (placeS f a +ℤ pos 1) (rank-is f b)
-        (shift-plus (top f) (rank f a) 1 (placeS f a) (rank-is f a)) h),
+    λ h. eq-shift middle (rank f b) (rank f a + 1) (placeS f b) (placeS f a +ℤ pos 1) (rank-is f b)
+        (shift-plus middle (rank f a) 1 (placeS f a) (rank-is f a)) (next-rank f a b A B h),
+    λ h. rank-next f a b A B (shift-eq middle (rank f b) (rank f a + 1) (placeS f b) (placeS f a +ℤ pos 1) (rank-is f b)
+        (shift-plus middle (rank f a) 1 (placeS f a) (rank-is f a)) h),
   )
 
   -- ---- the distance of numbers
@@ -48,8 +48,14 @@ module _ (f : Format) where
   far-rank : (a b : ℕ) → Number f a → Number f b → distanceS f a b .distance ≡ (rank f a - rank f b) + (rank f b - rank f a)
   far-rank a b A B =
       far a b A B
-      ∙ ap natAbs (sym (shift-difference (top f) (rank f a) (rank f b) (placeS f a) (placeS f b) (rank-is f a) (rank-is f b)))
+      ∙ ap natAbs (sym (shift-difference middle (rank f a) (rank f b) (placeS f a) (placeS f b) (rank-is f a) (rank-is f b)))
       ∙ size-is (rank f a) (rank f b)
+
+  pub refuses-nan : RefusesNan f
+  refuses-nan a b = (
+    λ h. distance-is f a b ∙ rw h,
+    λ A B. ap (λ (d : Apart). d .code) (distance-is f a b) ∙ rw (A, B),
+  )
 
   pub counts-steps : CountsSteps f
   counts-steps a b A B h n =

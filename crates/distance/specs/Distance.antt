@@ -7,8 +7,9 @@ use Rattle.words.specs.Pick.{if_then_else_}
 use Rattle.words.specs.Tests.{_≥?_}
 use Rattle.distance.specs.declared.Apart.{Apart}
 
--- The place of a float on the line of its format's numbers: 0 for both zeros, and from there one more, or one less, from each number to the next.
--- The bits below the sign's count the steps, and an infinity's come next after the largest finite number's. Line.antt says this of values.
+-- The place of a number on the line of its format's numbers: 0 for both zeros, and from there one more, or one less, from each number to the next.
+-- The bits below the sign's count the steps, and an infinity's come next after the largest finite number's. Line.antt says this of values. Of a
+-- NaN's pattern it means nothing.
 unfoldable pub placeS : Format → ℕ → ℤ
 placeS f b = if b ≥? top f then negℤ (pos (b % top f)) else pos (b % top f)
 

@@ -1,6 +1,6 @@
 // The C entries: numbers and byte slices only. A function's entry takes the argument's bits and gives the value's. Each batch entry does
 // the whole batch on the buffers that it is given, and gives one of the four numbers that the batch reports. A feed is bytes that the
-// host keeps. The header is include/raveltrellis.h.
+// host keeps. A distance takes the bits of two floats, and so does its code. The header is include/raveltrellis.h.
 mod apart;
 mod feed_bytes;
 mod report;

@@ -14,7 +14,7 @@ use lib.Ieee.{Float, nan, inf, Format, binary32, binary64, prec, emax, low, hid,
 use lib.Ieee.Bits.{ofBits-fits}
 use lib.Ieee.Exact.{HasValue}
 use borrow.Author.Tests.{le-leb, lt-leb}
-use Rattle.rounding.proofs.BitOrder.{bitVal, hid-pos, endless, bits-open, val-lt}
+use Rattle.rounding.proofs.BitOrder.{bitVal, hid-pos, endless, bits-open, val-lt, val-zero, val-pos}
 use Rattle.rounding.proofs.Grid.{pow-multiple}
 use Rattle.rounding.proofs.Signed.{value-shorter}
 use Rattle.floor.specs.Floor.{floorS}
@@ -79,10 +79,6 @@ one-value : (f : Format) → bitVal f (one f) ≡ 2 ^ low f
 one-value binary32 = refl
 one-value binary64 = refl
 
-zero-value : (f : Format) → bitVal f 0 ≡ 0
-zero-value binary32 = refl
-zero-value binary64 = refl
-
 module _ (f : Format) (b : ℕ) (tiny : fieldOf f b < emax f) where
   rest-lt : b % top f < one f
   rest-lt = subst (λ (n : ℕ). n < one f) (sym (rest-is f b)) (digits-lt tiny (mod-lt b (hid-pos f)))
@@ -101,13 +97,13 @@ module _ (f : Format) (b : ℕ) (tiny : fieldOf f b < emax f) where
   pub zero-stays : b % top f ≡ 0 → ofBits f b ≡ floorS f (ofBits f b)
   zero-stays e =
       stays f (ofBits f b) (leb (top f) b) (bitVal f (b % top f)) (2 ^ low f) (pow-pos (low f)) value
-      (mod-eq-of-lt size-lt ∙ ap (bitVal f) e ∙ zero-value f)
+      (mod-eq-of-lt size-lt ∙ ap (bitVal f) e ∙ val-zero f)
 
   -- any other falls to y: +0, or -1
   pub tiny-falls : (y : Float) → 0 < b % top f → T (fits f y) → HasValue y (leb (top f) b) (sizeBelow (leb (top f) b) 0) 1 → y ≡ floorS f (ofBits f b)
   tiny-falls y h F u =
       let none : bitVal f (b % top f) / 2 ^ low f ≡ 0 = div-eq-of-lt size-lt in
-      let some : 0 < bitVal f (b % top f) = subst (λ (n : ℕ). n < bitVal f (b % top f)) (zero-value f) (val-lt f 0 (b % top f) h) in
+      let some : 0 < bitVal f (b % top f) = val-pos f (b % top f) h in
       falls f (ofBits f b) (leb (top f) b) (bitVal f (b % top f)) (2 ^ low f) (pow-pos (low f)) value
       (λ e. lt-irrefl 0 (subst (λ (n : ℕ). 0 < n) (sym (mod-eq-of-lt size-lt) ∙ e) some))
       (subst (λ (n : ℕ). n < 2 ^ prec f) (sym none) (pow-pos (prec f)))

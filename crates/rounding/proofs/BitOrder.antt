@@ -1,6 +1,6 @@
 -- The bit patterns of the finite values that carry no minus sign are in the order of the values, subnormals and zero included:
 --   `bits-val`: a pattern below `endless`, the infinity's, stands for `bitVal` of the format's smallest units;
---   `val-lt`: `bitVal` grows with the pattern;
+--   `val-lt`: `bitVal` grows with the pattern; `val-zero`, `val-pos`: from 0 on;
 --   `bits-le`, `le-bits`: so the patterns are in order exactly where the values are;
 --   `toBits-under`: the pattern of a value with no minus sign is such a pattern; `bits-neg`, `toBits-neg`: the sign bit is the sign.
 -- Assumes nothing.
@@ -16,7 +16,7 @@ use mathlib.Core.Bool.{Bool, true, false, cond}
 use lib.IntN.{ℤ}
 use lib.Dec.{T, leb, eqb, leb→le, le→leb, eqb→eq, not-T}
 use lib.Pow.{pow-pos, pow-mono, shr-mono}
-use lib.Ieee.{Float, nan, inf, fin, Format, prec, emax, low, hid, ones, top, up, down, size, odd, ofFields, ofBits, toBits, fits, le, neg}
+use lib.Ieee.{Float, nan, inf, fin, Format, binary32, binary64, prec, emax, low, hid, ones, top, up, down, size, odd, ofFields, ofBits, toBits, fits, le, neg}
 use lib.Ieee.Bits.{is-true, is-false, cond-no}
 use lib.Ieee.Digits.{size-le}
 use lib.Ieee.Exact.{HasValue, odd-sign}
@@ -69,6 +69,15 @@ val-lt f b c h =
           (ap (λ (x : ℕ). x * hid f + c % hid f) e ∙ div-add-mod' c (hid f)) h))
       | inr l ↦ fields-lt (b / hid f) (b % hid f) (c / hid f) (c % hid f) (hid f) (mod-lt b (hid-pos f)) l
     ]
+
+-- the pattern 0 is no unit
+pub val-zero : (f : Format) → bitVal f 0 ≡ 0
+val-zero binary32 = refl
+val-zero binary64 = refl
+
+-- and every other is one or more
+pub val-pos : (f : Format) (b : ℕ) → 0 < b → 0 < bitVal f b
+val-pos f b h = subst (λ (z : ℕ). z < bitVal f b) (val-zero f) (val-lt f 0 b h)
 
 -- `bitVal` keeps the order
 pub val-le : (f : Format) (b c : ℕ) → b ≤ c → bitVal f b ≤ bitVal f c
