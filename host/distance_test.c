@@ -29,7 +29,8 @@ struct width {
     uint64_t (*distance)(double, double), (*code)(double, double);
     double (*next)(double, double);
     double least, least_normal, greatest;
-    int digits, lowest, highest; /* of a normal number, and the exponents of the least and the greatest */
+    /* The binary digits of a normal number, and the exponents of the least and the greatest. */
+    int digits, lowest, highest;
 };
 
 static uint64_t distance_f64(double a, double b) { return rvt_distance_f64(a, b); }
@@ -114,7 +115,7 @@ static uint64_t noise(void) {
     return z ^ z >> 31;
 }
 
-/* A number of the width, of any size and sign, in half of the cases a small one. */
+/* A number of the width, of any size and sign, often a small one. */
 static double number(const struct width *w) {
     double x;
     do {

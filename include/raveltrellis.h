@@ -93,7 +93,7 @@ enum rvt_kind {
 
 /* The codes that a call ends with. */
 enum rvt_stop {
-    RVT_DONE = 0,         /* the requests, or the piece, are used up; both floats are numbers */
+    RVT_DONE = 0,         /* the requests, or the piece, are used up; of a distance, both floats are numbers */
     RVT_UNKNOWN = 1,      /* the kind at the front is not in the table */
     RVT_CUT = 2,          /* the kind is known, and its body is incomplete */
     RVT_FULL = 3,         /* the record is whole, and its answer is longer than the room left */
@@ -161,9 +161,10 @@ uint64_t rvt_feed_close(uint8_t *feed, size_t feed_length);
 /*
  * How far two floats of one width lie apart, from their bits: the number of steps from one to the other
  * along the representable numbers of that width. -0 and +0 are one place, and each infinity is one step past
- * the largest finite number; so the numbers next to zero on its two sides are 2 apart. It is 0 exactly for
- * equal numbers, the same in either order, and never shorter by way of a third number. A NaN has no place:
- * then the distance is 0, and its code RVT_NO_DISTANCE; else the code is RVT_DONE.
+ * the largest finite number; so the numbers next to zero on its two sides are 2 apart. Of two numbers it is
+ * 0 exactly where they are equal, the same in either order, and never longer than by way of a third number.
+ * Where either is a NaN the distance is 0 too, and only the code, RVT_NO_DISTANCE, tells that from equal
+ * numbers; else the code is RVT_DONE.
  */
 uint64_t rvt_distance(uint64_t a, uint64_t b);
 uint64_t rvt_distance_code(uint64_t a, uint64_t b);
@@ -276,7 +277,7 @@ static inline float rvt_lgammaf_r_f32(float x, int *sign) {
     return rvt_of_bits_f32(rvt_lgammaf_r_value(bits));
 }
 
-/* The distance of two numbers, and 0 where one is a NaN. */
+/* The distance of two numbers; 0 also where one is a NaN, which the code of their bits tells apart. */
 static inline uint64_t rvt_distance_f64(double a, double b) { return rvt_distance(rvt_bits_f64(a), rvt_bits_f64(b)); }
 static inline uint64_t rvt_distancef_f32(float a, float b) { return rvt_distancef(rvt_bits_f32(a), rvt_bits_f32(b)); }
 

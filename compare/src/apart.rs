@@ -14,7 +14,7 @@ extern "C" {
     fn rvt_distancef_code(a: u32, b: u32) -> u64;
 }
 
-/// The distance of a pair and its code, by the entries, which take numbers and return for each.
+/// The distance of a pair and its code, by the entries, which take any numbers and return.
 fn port(width: Width, a: u64, b: u64) -> (u64, u64) {
     match width {
         Width::Double => unsafe { (rvt_distance(a, b), rvt_distance_code(a, b)) },

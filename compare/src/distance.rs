@@ -1,6 +1,6 @@
 //! How far two floats of one width lie apart: the steps from one to the other along the numbers of that
-//! width. It is worked out from the values alone, by how far apart the numbers of a binade lie, and looks at
-//! no bit of a pattern; so it shares nothing with the port, which counts by patterns.
+//! width. It is worked out from the two values, by how far apart the numbers of a binade lie, and looks at no
+//! bit of theirs, where the port counts by patterns.
 
 use crate::patterns::{power_of_two, Patterns, Width};
 use crate::random::Random;
@@ -8,7 +8,7 @@ use crate::random::Random;
 /// The code of a NaN's distance, which is none.
 const NO_DISTANCE: u64 = 4;
 
-/// 2^k x, where that is a number of f64: in two steps, since 2^k need be none.
+/// 2^k x, where that is a number of f64: in two steps, since 2^k itself need not be one.
 fn scaled(x: f64, k: i32) -> f64 {
     x * power_of_two(k / 2) * power_of_two(k - k / 2)
 }
@@ -92,7 +92,7 @@ pub fn answer(width: Width, a: u64, b: u64) -> (u64, u64) {
 pub fn told(width: Width, port: u64, rust: u64) -> String {
     match distance(width, port, rust) {
         _ if port == rust => String::new(),
-        Some(0) => ", zeros of other signs".to_string(),
+        Some(0) => ", zeros of opposite signs".to_string(),
         Some(1) => ", 1 step apart".to_string(),
         Some(steps) => format!(", {steps} steps apart"),
         None => ", a NaN among them".to_string(),

@@ -1,5 +1,6 @@
-//! What the Rust answers to a question to a single leaf: libm's functions, the language's casts, Horner's
-//! rule written out, and the distance of two floats. A NaN has one pattern, as an argument and as an answer.
+//! What the Rust answers to a question to a single leaf: libm's functions, the language's casts, and
+//! Horner's rule written out. A NaN has one pattern, as an argument and as an answer. The distance of two
+//! floats is compare's own, and takes NaNs of every pattern.
 
 // The constants have the digits of the Rust.
 #![allow(clippy::excessive_precision)]

@@ -123,7 +123,7 @@ fn number(word: &str) -> io::Result<u64> {
         .map_err(|_| failure(format!("{word} is not a number")))
 }
 
-/// A count that no sum with the systematic ones overflows, and no run comes to the end of.
+/// A count below 2^48: no sum with the systematic ones overflows, and more no run could finish.
 fn count_of(word: &str) -> io::Result<u64> {
     match number(word)? {
         count if count < 1 << 48 => Ok(count),
@@ -174,8 +174,12 @@ fn ask_leaf(
         tally.count(got == want, || {
             let name = leaf.name;
             let told = leaves::told(number, got, want);
+            let whose = match leaf.second {
+                Second::Beside => "by values",
+                _ => "Rust",
+            };
             format!(
-                "leaf {number}, {name}: a {a:#x}, b {b:#x}: port {got:#x}, Rust {want:#x}{told}"
+                "leaf {number}, {name}: a {a:#x}, b {b:#x}: port {got:#x}, {whose} {want:#x}{told}"
             )
         });
         at(place);

@@ -32,7 +32,7 @@ fn list(here: &Path, tally: &mut Tally) -> io::Result<()> {
         let (port, rust) = (stored.next().unwrap_or(&[]), answer_bytes(request));
         tally.count(port == rust, || {
             let told = told_bytes(request, port, &rust);
-            format!("question {request:02x?}: stored {port:02x?}, Rust {rust:02x?}{told}")
+            format!("question {request:02x?}: stored {port:02x?}, worked out {rust:02x?}{told}")
         });
     }
     tally.count(stored.next().is_none(), || {

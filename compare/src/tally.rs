@@ -4,7 +4,7 @@
 use std::io::{self, IsTerminal};
 use std::time::{Duration, Instant};
 
-/// The differences that are printed whole.
+/// The differences of a part, or of each thread of it, that are printed whole.
 const SHOWN: u64 = 20;
 
 #[derive(Default)]
@@ -13,6 +13,8 @@ pub struct Tally {
     pub differ: u64,
     /// What an earlier run compared and noted as alike, and this one only read.
     pub noted: u64,
+    /// The differences that were printed.
+    shown: u64,
 }
 
 impl Tally {
@@ -23,7 +25,8 @@ impl Tally {
             return;
         }
         self.differ += 1;
-        if self.differ <= SHOWN {
+        if self.shown < SHOWN {
+            self.shown += 1;
             println!("{}", describe());
         }
     }
@@ -33,12 +36,13 @@ impl Tally {
     pub fn add(&mut self, part: &Tally) {
         self.compared += part.compared;
         self.differ += part.differ;
+        self.shown += part.shown;
     }
 
     /// Prints the last line of a run, and answers its exit status.
     pub fn finish(&self) -> u8 {
-        if self.differ > SHOWN {
-            println!("{} more differ", self.differ - SHOWN);
+        if self.differ > self.shown {
+            println!("{} more differ", self.differ - self.shown);
         }
         println!("{}", self.sum());
         u8::from(self.differ > 0)

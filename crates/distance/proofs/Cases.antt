@@ -18,11 +18,16 @@ pub zeros-together : (distanceS binary64 0 0x8000000000000000 ≡ apart 0) × (d
 unfolding distanceS placeS nanBits
 zeros-together = (refl, refl)
 
--- the largest finite number and the infinity behind it, and from one infinity to the other
-pub to-infinity : (distanceS binary64 0x7FEFFFFFFFFFFFFF 0x7FF0000000000000 ≡ apart 1) × (distanceS binary32 0xFF7FFFFF 0xFF800000 ≡ apart 1)
+-- the largest finite number of either sign and the infinity behind it
+pub to-infinity : (distanceS binary64 0x7FEFFFFFFFFFFFFF 0x7FF0000000000000 ≡ apart 1) × (distanceS binary32 0x7F7FFFFF 0x7F800000 ≡ apart 1)
 unfolding distanceS placeS nanBits
 to-infinity = (refl, refl)
 
+pub to-minus-infinity : (distanceS binary64 0xFFEFFFFFFFFFFFFF 0xFFF0000000000000 ≡ apart 1) × (distanceS binary32 0xFF7FFFFF 0xFF800000 ≡ apart 1)
+unfolding distanceS placeS nanBits
+to-minus-infinity = (refl, refl)
+
+-- from one infinity to the other
 pub end-to-end : (distanceS binary64 0xFFF0000000000000 0x7FF0000000000000 ≡ apart 0xFFE0000000000000)
     × (distanceS binary32 0xFF800000 0x7F800000 ≡ apart 0xFF000000)
 unfolding distanceS placeS nanBits

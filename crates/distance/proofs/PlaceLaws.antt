@@ -217,7 +217,7 @@ module _ (f : Format) where
   rank-eq a b A B h = is-true (eq (ofBits f a) (ofBits f b)) (eq-by-rank a b A B h)
 
   -- what is at most a number has at most its rank
-  pub le-rank : (a b : ℕ) → Number f a → Number f b → T (le (ofBits f a) (ofBits f b)) → rank f a ≤ rank f b
+  le-rank : (a b : ℕ) → Number f a → Number f b → T (le (ofBits f a) (ofBits f b)) → rank f a ≤ rank f b
   le-rank a b A B h = ltb-false (rank f b) (rank f a) (sym (lt-rank b a B A) ∙ not-lt-of-le (ofBits f b) (ofBits f a) h)
 
   pub eq-rank : (a b : ℕ) → Number f a → Number f b → eq (ofBits f a) (ofBits f b) ≡ true → rank f a ≡ rank f b

@@ -1,24 +1,31 @@
 -- Each promise of specs/Line, for both formats. Assumes nothing.
-use mathlib.Core.Path.{_≡_, refl, sym, ap, _∙_, subst}
+use mathlib.Core.Path.{_≡_, refl, sym, ap, _∙_}
 use mathlib.Core.Bool.{Bool, true, false, _||_}
+use mathlib.Core.Logic.{_⊎_, inl, inr}
 use Prim.Native.Nat.{ℕ, _+_, _-_, _≤_}
 use native.Mathlib.Omega.{arith}
-use lib.Dec.{T}
+use borrow.Author.Tests.{ltb-true, ltb-false}
+use lib.Dec.{ltb}
 use lib.IntN.{pos, natAbs, _+ℤ_, _-ℤ_}
-use lib.Ieee.{Format, binary32, binary64, nanBits}
+use lib.Ieee.{Format, binary32, binary64, nanBits, ofBits}
 use Rattle.words.specs.Pick.{pick}
 use Rattle.distance.specs.Distance.{placeS, distanceS}
-use Rattle.distance.specs.Line.{Number, AtZero, InOrder, NextPlace, RefusesNan, CountsSteps, ZeroForSame, EitherOrder, NoShortcut}
+use Rattle.distance.specs.Line.{Number, Steps, AtZero, PastLargest, InOrder, NextPlace, RefusesNan, CountsSteps, ZeroForSame, EitherOrder, NoShortcut}
 use Rattle.distance.specs.declared.Apart.{Apart}
 use Rattle.distance.proofs.Shift.{size-is, size-turned, size-through, shift-difference, shift-eq, eq-shift, shift-plus, shift-less}
 use Rattle.distance.proofs.SpotLaws.{distance-is}
-use Rattle.distance.proofs.PlaceLaws.{middle, rank, rank-is, lt-rank, rank-eq, le-rank, eq-rank}
+use Rattle.distance.proofs.PlaceLaws.{middle, rank, rank-is, lt-rank, rank-eq, eq-rank}
 use Rattle.distance.proofs.LineLaws.{next-rank, rank-next, steps-rank, rank-steps}
 
 pub at-zero : (f : Format) → AtZero f
 unfolding placeS
 at-zero binary32 = (refl, refl)
 at-zero binary64 = (refl, refl)
+
+pub past-largest : (f : Format) → PastLargest f
+unfolding placeS
+past-largest binary32 = (refl, refl)
+past-largest binary64 = (refl, refl)
 
 module _ (f : Format) where
   same-rank : (a b : ℕ) → placeS f a ≡ placeS f b → rank f a ≡ rank f b
@@ -58,10 +65,16 @@ module _ (f : Format) where
   )
 
   pub counts-steps : CountsSteps f
-  counts-steps a b A B h n =
-      let l = le-rank f a b A B (subst T (sym h) tt) in
-      let d = far-rank a b A B in
-      (λ s. let e = steps-rank f n a b A B s in omega arith, λ e. rank-steps f n a b A B (omega arith))
+  counts-steps a b n A B = (λ e. up e (ltb (rank f b) (rank f a)) refl, down)
+    where
+      up : distanceS f a b .distance ≡ n → (t : Bool) → ltb (rank f b) (rank f a) ≡ t
+          → Steps f n (ofBits f a) (ofBits f b) ⊎ Steps f n (ofBits f b) (ofBits f a)
+      up e false h = let l = ltb-false (rank f b) (rank f a) h in inl (rank-steps f n a b A B (omega (arith, far-rank a b A B)))
+      up e true h = let l = ltb-true (rank f b) (rank f a) h in inr (rank-steps f n b a B A (omega (arith, far-rank a b A B)))
+
+      down : Steps f n (ofBits f a) (ofBits f b) ⊎ Steps f n (ofBits f b) (ofBits f a) → distanceS f a b .distance ≡ n
+      down (inl s) = omega (arith, far-rank a b A B, steps-rank f n a b A B s)
+      down (inr s) = omega (arith, far-rank a b A B, steps-rank f n b a B A s)
 
   pub zero-for-same : ZeroForSame f
   zero-for-same a b A B =

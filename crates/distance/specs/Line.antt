@@ -1,12 +1,12 @@
 -- What a place means, and what the distance promises. The line of a format's numbers is told of values: a number is a float that is no NaN, an
 -- infinity included, and -0 and +0 are equal. proofs/Promised has a proof of each promise, for both formats.
-use Prim.Native.Nat.{ℕ, zero, suc, _+_, _≤_}
+use Prim.Native.Nat.{ℕ, zero, suc, _+_, _-_, _*_, _≤_}
 use mathlib.Core.Path.{_≡_}
 use mathlib.Core.Bool.{true, false, _||_}
-use mathlib.Core.Logic.{_↔_}
+use mathlib.Core.Logic.{_↔_, _⊎_}
 use lib.IntN.{pos, _+ℤ_}
-use lib.Ieee.{Float, Format, top, fits, ofBits, nanBits}
-use Rattle.words.specs.Tests.{_<·_, _≤·_, _=·_, _<ℤ?_}
+use lib.Ieee.{Float, Format, hid, ones, top, fits, ofBits, nanBits}
+use Rattle.words.specs.Tests.{_<·_, _=·_, _<ℤ?_}
 use Rattle.distance.specs.Distance.{placeS, distanceS}
 
 -- a number's pattern
@@ -19,7 +19,7 @@ pub record Next (f : Format) (x y : Float) : Type 0 where
   pub above : (x <· y) ≡ true
   pub between : (z : Float) → fits f z ≡ true → (x <· z) ≡ true → (z <· y) ≡ true → ⊥
 
--- n steps up lead from x to y, each to a next number of the format
+-- n steps up lead from x to y, each to a next number of the format; none, where the two are equal, as -0 and +0 are
 abbrev pub Steps : Format → ℕ → Float → Float → Type 0
 Steps f zero x y = (x =· y) ≡ true
 Steps f (suc n) x y = (z : Float) × Next f x z × Steps f n z y
@@ -27,6 +27,12 @@ Steps f (suc n) x y = (z : Float) × Next f x z × Steps f n z y
 -- Both zeros, by their patterns, are at place 0.
 abbrev pub AtZero : Format → Type 0
 AtZero f = (placeS f 0 ≡ pos 0) × (placeS f (top f) ≡ pos 0)
+
+-- Each infinity is one step past the largest finite number of its sign, whose pattern is the one before.
+abbrev pub PastLargest : Format → Type 0
+PastLargest f =
+    let ∞ = ones f * hid f in
+    (placeS f ∞ ≡ placeS f (∞ - 1) +ℤ pos 1) × (placeS f (top f + (∞ - 1)) ≡ placeS f (top f + ∞) +ℤ pos 1)
 
 -- Places are in the order of the numbers, and equal numbers, and no others, have one place.
 abbrev pub InOrder : Format → Type 0
@@ -45,13 +51,13 @@ RefusesNan f =
     (nanBits f a || nanBits f b ≡ true → distanceS f a b ≡ record { code = 4; distance = 0 })
     × (Number f a → Number f b → distanceS f a b .code ≡ 0)
 
--- The distance is the number of steps from the lesser number up to the greater: so many lead there, and no other number of steps does.
+-- The distance is the number of steps from one number to the other: so many lead up from one of them to the other, and no other number of steps does.
 abbrev pub CountsSteps : Format → Type 0
 CountsSteps f =
-    (a b : ℕ) → Number f a → Number f b → (ofBits f a ≤· ofBits f b) ≡ true →
-    (n : ℕ) → Steps f n (ofBits f a) (ofBits f b) ↔ (distanceS f a b .distance ≡ n)
+    (a b n : ℕ) → Number f a → Number f b →
+    (distanceS f a b .distance ≡ n) ↔ (Steps f n (ofBits f a) (ofBits f b) ⊎ Steps f n (ofBits f b) (ofBits f a))
 
--- It is zero exactly for equal places,
+-- Of two numbers it is zero exactly for equal places,
 abbrev pub ZeroForSame : Format → Type 0
 ZeroForSame f = (a b : ℕ) → Number f a → Number f b → (distanceS f a b .distance ≡ 0) ↔ (placeS f a ≡ placeS f b)
 
@@ -59,7 +65,7 @@ ZeroForSame f = (a b : ℕ) → Number f a → Number f b → (distanceS f a b .
 abbrev pub EitherOrder : Format → Type 0
 EitherOrder f = (a b : ℕ) → distanceS f a b ≡ distanceS f b a
 
--- and never shorter by way of a third number.
+-- and never shorter by way of a third number. That must be one, since by way of a NaN both distances are 0; of the two ends nothing is asked.
 abbrev pub NoShortcut : Format → Type 0
 NoShortcut f =
     (a b c : ℕ) → Number f b → distanceS f a c .distance ≤ distanceS f a b .distance + distanceS f b c .distance

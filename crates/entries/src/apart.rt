@@ -1,4 +1,4 @@
-// How far two floats of one width lie apart, by their bits: the distance, and its code, 0, or 4 where one is a NaN and the distance 0.
+// How far two floats of one width lie apart, by their bits: the distance, and its code: 0, or 4 where one is a NaN (the distance is then 0).
 use distance::distance;
 use distance::distance_f32;
 ghost use mathlib.Core.Path.{_≡_};

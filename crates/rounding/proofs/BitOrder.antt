@@ -70,12 +70,12 @@ val-lt f b c h =
       | inr l ↦ fields-lt (b / hid f) (b % hid f) (c / hid f) (c % hid f) (hid f) (mod-lt b (hid-pos f)) l
     ]
 
--- the pattern 0 is no unit
+-- the pattern 0 stands for no unit
 pub val-zero : (f : Format) → bitVal f 0 ≡ 0
 val-zero binary32 = refl
 val-zero binary64 = refl
 
--- and every other is one or more
+-- and every other for one or more
 pub val-pos : (f : Format) (b : ℕ) → 0 < b → 0 < bitVal f b
 val-pos f b h = subst (λ (z : ℕ). z < bitVal f b) (val-zero f) (val-lt f 0 b h)
 

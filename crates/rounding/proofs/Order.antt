@@ -1,7 +1,8 @@
 -- The order `le` on floats:
 --   `le-refl`, `le-total`, `le-trans`: it is reflexive and total on finite values, and transitive on all;
 --   `lt-le`, `le-of-not-lt`, `not-lt-of-le`: `lt` is the order without equality;
---   `eq-values`: the test `eq` on two values of one sign, by any fractions that they equal; `eq-le`, `eq-turned`: on all;
+--   `eq-values`: the test `eq` on two values of one sign, by any fractions that they equal;
+--   `eq-le`, `eq-turned`: equal floats are at most each other, and equal either way round;
 --   `between-finite`, `neg-finite`: what lies between finite values is finite, and so is the negative of one;
 --   `Between`, `between-bounds`: to lie between two values, one way round or the other.
 -- Assumes nothing.
