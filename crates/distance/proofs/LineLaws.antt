@@ -2,16 +2,16 @@
 use mathlib.Core.Path.{_≡_, refl, sym, ap, _∙_, subst}
 use mathlib.Core.Bool.{Bool, true, false, true≢false}
 use Prim.Native.Nat.{ℕ, zero, suc, _+_, _-_, _%_, _≤_, _<_}
-use native.Mathlib.Nat.{mod-eq-of-lt, add-mod-left, lt-of-le-of-lt}
+use native.Mathlib.Nat.{le-refl, mod-eq-of-lt, add-mod-left, lt-of-le-of-lt}
 use native.Mathlib.Omega.{arith}
 use borrow.Author.Tests.{ltb-true, ltb-false, lt-ltb, le-ltb, le-leb, lt-leb}
 use lib.Dec.{T, leb, ltb}
-use lib.Ieee.{Float, nan, inf, fin, Format, binary32, binary64, top, lt, fits, ofBits, toBits, isNan}
+use lib.Ieee.{Float, nan, inf, fin, Format, binary32, binary64, top, neg, lt, le, fits, ofBits, toBits, isNan}
 use lib.Ieee.Bits.{is-true, nanBits-above, nanBits-is, ofBits-fits, ofBits-toBits}
-use Rattle.rounding.proofs.BitOrder.{endless}
+use Rattle.rounding.proofs.BitOrder.{endless, bits-neg}
 use Rattle.words.specs.Pick.{pick}
-use Rattle.distance.specs.Line.{Number, Next, Steps}
-use Rattle.distance.proofs.PlaceLaws.{number-size, middle, rank, lt-rank, rank-eq, eq-rank}
+use Rattle.distance.specs.Line.{Number, Next, Steps, PastLargest}
+use Rattle.distance.proofs.PlaceLaws.{of-infinity, number-size, middle, rank, rank-le, lt-rank, rank-eq, eq-rank}
 
 module _ (f : Format) where
   -- ---- a number at each rank
@@ -71,6 +71,12 @@ module _ (f : Format) where
   above-number x (inf s) h = refl
   above-number x (fin s m e) h = refl
 
+  below-number : (z y : Float) → lt z y ≡ true → isNan z ≡ false
+  unfolding lt isNan
+  below-number nan y h = absurd (true≢false (sym h))
+  below-number (inf s) y h = refl
+  below-number (fin s m e) y h = refl
+
   pattern-of : (z : Float) → fits f z ≡ true → isNan z ≡ false → (b : ℕ) × Number f b × (ofBits f b ≡ z)
   pattern-of z F h =
       let e : ofBits f (toBits f z) ≡ z = ofBits-toBits f z (subst T (sym F) tt) in
@@ -107,6 +113,45 @@ module _ (f : Format) where
         let k' = ltb-true (rank f c) (rank f b) (sym (lt-rank f c b C B) ∙ ap (λ (y : Float). lt y (ofBits f b)) e ∙ k) in
         omega arith;
   }
+
+  -- ---- the infinities
+  of-plus : ofBits f (endless f) ≡ inf false
+  of-plus = of-infinity f (endless f) (mod-eq-of-lt ends) ∙ ap inf (lt-leb (top f) (endless f) ends)
+
+  of-minus : ofBits f (top f + endless f) ≡ inf true
+  of-minus =
+      of-infinity f (top f + endless f) (add-mod-left (top f) (endless f) ∙ mod-eq-of-lt ends)
+      ∙ ap inf (le-leb (top f) (top f + endless f) (omega arith))
+
+  bounds : (0 < endless f) × (endless f ≤ middle)
+  bounds = go f
+    where
+      go : (f : Format) → (0 < endless f) × (endless f ≤ middle)
+      go binary32 = (omega arith, omega arith)
+      go binary64 = (omega arith, omega arith)
+
+  pub largest-next : PastLargest f
+  largest-next =
+      let n = endless f - 1 in
+      let x = upper n (omega arith) in
+      let y = upper (endless f) (le-refl (endless f)) in
+      let v = lower n (omega arith) in
+      let u = lower (endless f) (le-refl (endless f)) in (
+        record {
+          finite = subst (λ (z : Float). lt (ofBits f n) z ≡ true) of-plus
+              (lt-rank f n (endless f) (x .0) (y .0) ∙ lt-ltb (rank f n) (rank f (endless f)) (omega (arith, bounds .0, x .1, y .1)));
+          others = λ z F h.
+              let p = pattern-of z F (below-number z (inf false) h) in
+              let e : lt (ofBits f (p .0)) (ofBits f (endless f)) ≡ true = rw (p .2, of-plus) h in
+              let l = ltb-true (rank f (p .0)) (rank f (endless f)) (sym (lt-rank f (p .0) (endless f) (p .1) (y .0)) ∙ e) in
+              is-true (le z (ofBits f n))
+              (subst (λ (w : Float). T (le w (ofBits f n))) (p .2) (rank-le f (p .0) n (p .1) (x .0) (omega (arith, x .1, y .1))));
+        },
+        subst (λ (z : Float). Next f (ofBits f n) z) of-plus (rank-next n (endless f) (x .0) (y .0) (omega (arith, bounds .0, x .1, y .1))),
+        subst (λ (z : Float). Next f z (neg (ofBits f n))) of-minus
+            (subst (λ (z : Float). Next f (ofBits f (top f + endless f)) z) (bits-neg f n (omega (arith, ends)))
+            (rank-next (top f + endless f) (top f + n) (u .0) (v .0) (omega (arith, bounds .0, bounds .1, u .1, v .1)))),
+      )
 
   -- ---- steps
   pub steps-rank : (n a b : ℕ) → Number f a → Number f b → Steps f n (ofBits f a) (ofBits f b) → rank f b ≡ rank f a + n

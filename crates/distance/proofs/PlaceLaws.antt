@@ -35,7 +35,7 @@ unfolding ofFields
 infinity binary32 s = refl
 infinity binary64 s = refl
 
-of-infinity : (f : Format) (b : ℕ) → b % top f ≡ endless f → ofBits f b ≡ inf (leb (top f) b)
+pub of-infinity : (f : Format) (b : ℕ) → b % top f ≡ endless f → ofBits f b ≡ inf (leb (top f) b)
 of-infinity f b e =
     bits-open f b
     ∙ ap (ofFields f (leb (top f) b) (b % top f / hid f)) (sym (digits-rest f b))
@@ -195,6 +195,11 @@ module _ (f : Format) where
       eq-by-size f _ _ _ _ _ _ (stands f a A) (stands f b B)
       (same-sizes middle (a % top f) (b % top f) (small f a) (small f b) (leb (top f) a) (leb (top f) b) h)
 
+  -- what has at most a number's rank is at most that number
+  pub rank-le : (a b : ℕ) → Number f a → Number f b → rank f a ≤ rank f b → T (le (ofBits f a) (ofBits f b))
+  rank-le a b A B l =
+      elim (eq-or-lt-of-le l) [ inl e ↦ eq-le _ _ (eq-by-rank a b A B e) | inr k ↦ lt-le _ _ (below-by-rank a b A B k) ]
+
   -- ranks are in the order of the numbers
   pub lt-rank : (a b : ℕ) → Number f a → Number f b → lt (ofBits f a) (ofBits f b) ≡ ltb (rank f a) (rank f b)
   lt-rank a b A B = go (ltb (rank f a) (rank f b)) refl
@@ -205,18 +210,14 @@ module _ (f : Format) where
       y : Float
       y = ofBits f b
 
-      at-least : rank f b ≤ rank f a → T (le y x)
-      at-least l =
-          elim (eq-or-lt-of-le l) [ inl e ↦ eq-le y x (eq-by-rank b a B A e) | inr k ↦ lt-le y x (below-by-rank b a B A k) ]
-
       go : (t : Bool) → ltb (rank f a) (rank f b) ≡ t → lt x y ≡ t
       go true h = is-true (lt x y) (below-by-rank a b A B (ltb-true (rank f a) (rank f b) h))
-      go false h = not-lt-of-le x y (at-least (ltb-false (rank f a) (rank f b) h))
+      go false h = not-lt-of-le x y (rank-le b a B A (ltb-false (rank f a) (rank f b) h))
 
   pub rank-eq : (a b : ℕ) → Number f a → Number f b → rank f a ≡ rank f b → eq (ofBits f a) (ofBits f b) ≡ true
   rank-eq a b A B h = is-true (eq (ofBits f a) (ofBits f b)) (eq-by-rank a b A B h)
 
-  -- what is at most a number has at most its rank
+  -- and the other way
   le-rank : (a b : ℕ) → Number f a → Number f b → T (le (ofBits f a) (ofBits f b)) → rank f a ≤ rank f b
   le-rank a b A B h = ltb-false (rank f b) (rank f a) (sym (lt-rank b a B A) ∙ not-lt-of-le (ofBits f b) (ofBits f a) h)
 

@@ -1,6 +1,6 @@
 -- Each promise of specs/Line, for both formats. Assumes nothing.
 use mathlib.Core.Path.{_≡_, refl, sym, ap, _∙_}
-use mathlib.Core.Bool.{Bool, true, false, _||_}
+use mathlib.Core.Bool.{Bool, true, false, _||_, or-comm}
 use mathlib.Core.Logic.{_⊎_, inl, inr}
 use Prim.Native.Nat.{ℕ, _+_, _-_, _≤_}
 use native.Mathlib.Omega.{arith}
@@ -15,19 +15,17 @@ use Rattle.distance.specs.declared.Apart.{Apart}
 use Rattle.distance.proofs.Shift.{size-is, size-turned, size-through, shift-difference, shift-eq, eq-shift, shift-plus, shift-less}
 use Rattle.distance.proofs.SpotLaws.{distance-is}
 use Rattle.distance.proofs.PlaceLaws.{middle, rank, rank-is, lt-rank, rank-eq, eq-rank}
-use Rattle.distance.proofs.LineLaws.{next-rank, rank-next, steps-rank, rank-steps}
+use Rattle.distance.proofs.LineLaws.{next-rank, rank-next, largest-next, steps-rank, rank-steps}
 
 pub at-zero : (f : Format) → AtZero f
 unfolding placeS
 at-zero binary32 = (refl, refl)
 at-zero binary64 = (refl, refl)
 
-pub past-largest : (f : Format) → PastLargest f
-unfolding placeS
-past-largest binary32 = (refl, refl)
-past-largest binary64 = (refl, refl)
-
 module _ (f : Format) where
+  pub past-largest : PastLargest f
+  past-largest = largest-next f
+
   same-rank : (a b : ℕ) → placeS f a ≡ placeS f b → rank f a ≡ rank f b
   same-rank a b = shift-eq middle (rank f a) (rank f b) (placeS f a) (placeS f b) (rank-is f a) (rank-is f b)
 
@@ -84,15 +82,9 @@ module _ (f : Format) where
   pub either-order : EitherOrder f
   either-order a b =
       distance-is f a b
-      ∙ ap (λ (t : Bool). pick t (record { code = 4; distance = 0 }) (record { code = 0; distance = natAbs (placeS f a -ℤ placeS f b) })) (turned (nanBits f a) (nanBits f b))
+      ∙ ap (λ (t : Bool). pick t (record { code = 4; distance = 0 }) (record { code = 0; distance = natAbs (placeS f a -ℤ placeS f b) })) (or-comm (nanBits f a) (nanBits f b))
       ∙ ap (λ (d : ℕ). pick (nanBits f b || nanBits f a) (record { code = 4; distance = 0 }) (record { code = 0; distance = d })) (size-turned (placeS f a) (placeS f b))
       ∙ sym (distance-is f b a)
-    where
-      turned : (s t : Bool) → s || t ≡ t || s
-      turned true true = refl
-      turned true false = refl
-      turned false true = refl
-      turned false false = refl
 
   pub no-shortcut : NoShortcut f
   no-shortcut a b c B = go (nanBits f a) (nanBits f c) refl refl

@@ -5,8 +5,8 @@ use mathlib.Core.Path.{_≡_}
 use mathlib.Core.Bool.{true, false, _||_}
 use mathlib.Core.Logic.{_↔_, _⊎_}
 use lib.IntN.{pos, _+ℤ_}
-use lib.Ieee.{Float, Format, hid, ones, top, fits, ofBits, nanBits}
-use Rattle.words.specs.Tests.{_<·_, _=·_, _<ℤ?_}
+use lib.Ieee.{Float, inf, Format, hid, ones, top, neg, fits, ofBits, nanBits}
+use Rattle.words.specs.Tests.{_<·_, _≤·_, _=·_, _<ℤ?_}
 use Rattle.distance.specs.Distance.{placeS, distanceS}
 
 -- a number's pattern
@@ -24,15 +24,18 @@ abbrev pub Steps : Format → ℕ → Float → Float → Type 0
 Steps f zero x y = (x =· y) ≡ true
 Steps f (suc n) x y = (z : Float) × Next f x z × Steps f n z y
 
+-- x is the largest of the format's finite numbers
+pub record Largest (f : Format) (x : Float) : Type 0 where
+  pub finite : (x <· inf false) ≡ true
+  pub others : (z : Float) → fits f z ≡ true → (z <· inf false) ≡ true → (z ≤· x) ≡ true
+
+-- The pattern before the infinity's is the largest finite number's, and an infinity is the next number past it, and so on the other side.
+abbrev pub PastLargest : Format → Type 0
+PastLargest f = let x = ofBits f (ones f * hid f - 1) in Largest f x × Next f x (inf false) × Next f (inf true) (neg x)
+
 -- Both zeros, by their patterns, are at place 0.
 abbrev pub AtZero : Format → Type 0
 AtZero f = (placeS f 0 ≡ pos 0) × (placeS f (top f) ≡ pos 0)
-
--- Each infinity is one step past the largest finite number of its sign, whose pattern is the one before.
-abbrev pub PastLargest : Format → Type 0
-PastLargest f =
-    let ∞ = ones f * hid f in
-    (placeS f ∞ ≡ placeS f (∞ - 1) +ℤ pos 1) × (placeS f (top f + (∞ - 1)) ≡ placeS f (top f + ∞) +ℤ pos 1)
 
 -- Places are in the order of the numbers, and equal numbers, and no others, have one place.
 abbrev pub InOrder : Format → Type 0
