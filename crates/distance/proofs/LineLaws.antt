@@ -138,6 +138,7 @@ module _ (f : Format) where
       let v = lower n (omega arith) in
       let u = lower (endless f) (le-refl (endless f)) in (
         record {
+          held = is-true (fits f (ofBits f n)) (ofBits-fits f n);
           finite = subst (λ (z : Float). lt (ofBits f n) z ≡ true) of-plus
               (lt-rank f n (endless f) (x .0) (y .0) ∙ lt-ltb (rank f n) (rank f (endless f)) (omega (arith, bounds .0, x .1, y .1)));
           others = λ z F h.

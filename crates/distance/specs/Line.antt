@@ -26,6 +26,7 @@ Steps f (suc n) x y = (z : Float) × Next f x z × Steps f n z y
 
 -- x is the largest of the format's finite numbers
 pub record Largest (f : Format) (x : Float) : Type 0 where
+  pub held : fits f x ≡ true
   pub finite : (x <· inf false) ≡ true
   pub others : (z : Float) → fits f z ≡ true → (z <· inf false) ≡ true → (z ≤· x) ≡ true
 
