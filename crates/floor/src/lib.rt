@@ -1,14 +1,17 @@
-// floor, floorf, by masks on the bits as the Rust has them. A NaN leaves first, so that `bits_of` need not look for one on the way, and what
-// is read back from a mask's bits is known to be a number.
+// floor, floorf: the greatest whole number that is at most x. A float has a fixed number of binary digits, 53 in f64 and 24 in f32; the more of
+// them stand before the point, the fewer are left for a fraction. That makes three cases, by the size of x.
 ghost use mathlib.Core.Path.{_≡_};
 ghost use lib.Ieee.{binary32, binary64};
 ghost use Rattle.floor.specs.Floor.{floorS};
-use words::bits::bits_of;
-use words::bits::bits_of_f32;
+use std::num::truncating_f32_to_i64;
+use std::num::truncating_f64_to_i64;
+use words::fabs::fabs;
+use words::fabs::fabsf;
 
-const SIG_MASK: u64 = 0xf_ffff_ffff_ffff;
+// From this size on all digits stand before the point, and every number is whole: 2^52, in f32 2^23.
+const WHOLE_FROM: f64 = 4503599627370496.0;
 
-const SIG_MASK_F32: u32 = 0x7f_ffff;
+const WHOLE_FROM_F32: f32 = 8388608.0;
 
 const NEG_ONE: f64 = -1.0;
 
@@ -17,63 +20,47 @@ const NEG_ONE_F32: f32 = -1.0;
 pub fn floor(x: f64) -> f64
     ensures { λ r. ⌜ r ≡ floorS binary64 x ⌝ }
 {
-    if x != x {
-        return x;
-    }
-    let ix = bits_of(x);
-    let e = ix / 0x10_0000_0000_0000 % 2048;
-    if e >= 1075 {
-        return x;
-    }
-    if e < 1023 {
-        // |x| < 1.0
-        if ix < 0x8000_0000_0000_0000 {
-            return 0.0;
+    let size = fabs(x);
+    if size < 1.0 {
+        // Size below one: the whole number below is -1 for a negative x, and 0 for a positive one.
+        if x < 0.0 {
+            NEG_ONE
+        } else if x > 0.0 {
+            0.0 // however close to one x is
+        } else {
+            x // a zero is whole, and keeps its sign
         }
-        if ix == 0x8000_0000_0000_0000 {
-            return x;
-        }
-        return NEG_ONE;
+    } else if size < WHOLE_FROM {
+        // A fraction still present, or room for one. Cutting it off moves x toward zero; an x without one does not move. A positive x moves down, to the
+        // whole number below it. A negative x moves up, and the whole number below it is one less.
+        let cut = truncating_f64_to_i64(x) as f64;
+        if cut > x { cut - 1.0 } else { cut } // above x where it has moved up
+    } else {
+        // No fraction possible: x is whole, and stays. So do an infinity and a NaN, for which neither test holds.
+        x
     }
-    // |x| >= 1.0
-    let m = SIG_MASK >> (e - 1023);
-    if ix & m == 0 {
-        return x;
-    }
-    if ix < 0x8000_0000_0000_0000 {
-        return f64::from_bits(ix & !m);
-    }
-    f64::from_bits(ix + m & !m)
 }
 
+// The same three cases in f32.
 pub fn floorf(x: f32) -> f32
     ensures { λ r. ⌜ r ≡ floorS binary32 x ⌝ }
 {
-    if x != x {
-        return x;
-    }
-    let ix = bits_of_f32(x);
-    let e = ix / 0x80_0000 % 256;
-    if e >= 150 {
-        return x;
-    }
-    if e < 127 {
-        // |x| < 1.0
-        if ix < 0x8000_0000 {
-            return 0.0;
+    let size = fabsf(x);
+    if size < 1.0 {
+        // Size below one.
+        if x < 0.0 {
+            NEG_ONE_F32
+        } else if x > 0.0 {
+            0.0
+        } else {
+            x
         }
-        if ix == 0x8000_0000 {
-            return x;
-        }
-        return NEG_ONE_F32;
+    } else if size < WHOLE_FROM_F32 {
+        // A fraction still present, or room for one.
+        let cut = truncating_f32_to_i64(x) as f32;
+        if cut > x { cut - 1.0 } else { cut }
+    } else {
+        // No fraction possible.
+        x
     }
-    // |x| >= 1.0
-    let m = SIG_MASK_F32 >> (e - 127);
-    if ix & m == 0 {
-        return x;
-    }
-    if ix < 0x8000_0000 {
-        return f32::from_bits(ix & !m);
-    }
-    f32::from_bits(ix + m & !m)
 }

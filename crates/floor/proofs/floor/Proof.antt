@@ -1,85 +1,70 @@
 -- `floor::floor` meets its contract, return by return. Assumes nothing.
-use mathlib.Core.Path.{refl}
 use lib.Ieee.{binary64}
 use borrow.Author.Needs.{needs}
-use Rattle.floor.specs.Floor.{floorS}
-use Rattle.words.proofs.PatternLaws.{nan-kept}
 use Rattle.floor.proofs.FloorCode as code
 use Rattle.floor.proofs.floor.Statement.{statement}
 use Rattle.floor.proofs.floor.Tie as tie
 
-returns : tie.Need-returns
-unfolding floorS
-returns c = nan-kept (floorS binary64) refl _ (c .if1 .taken)
+fabs-requires : tie.Need-fabs-requires
+fabs-requires c κs = search needs
 
-bits-of-requires : tie.Need-bits-of-requires
-bits-of-requires c κs = search needs
+-- ---- size below one
+returns : tie.Need-returns
+returns c =
+    let s = c .before .before in
+    code.below-zero binary64 _ _ (s .before .good .0 .1) (s .fabs .ensures) (c .before .if1 .taken) (c .if2 .taken)
 
 returns-2 : tie.Need-returns-2
-returns-2 c = let s = c .before in code.whole-already binary64 _ _ (s .before .before .good .0 .1) (s .bits-of .ensures) (c .if2 .taken)
+returns-2 c =
+    let s = c .before .before .before in
+    code.above-zero binary64 _ _ (s .before .good .0 .1) (s .fabs .ensures) (c .before .before .if1 .taken) (c .if3 .taken)
 
 returns-3 : tie.Need-returns-3
 returns-3 c =
     let s = c .before .before .before in
-    code.below-one binary64 _ _ (s .before .before .good .0 .1) (s .bits-of .ensures) (c .before .if3 .taken) (c .if4 .taken)
+    code.at-zero binary64 _ _ (s .before .good .0 .1) (s .fabs .ensures) (c .before .before .if1 .taken) (c .before .if2 .left) (c .if3 .left)
+
+-- ---- no fraction possible
+returns-6 : tie.Need-returns-6
+returns-6 c =
+    let s = c .before .before in code.no-fraction binary64 _ _ (s .before .good .0 .1) (s .fabs .ensures) (c .if4 .left)
+
+-- ---- a fraction still present, or room for one
+truncating-f64-to-i64-requires : tie.Need-truncating-f64-to-i64-requires
+truncating-f64-to-i64-requires c κs =
+    let s = c .before .before in code.in-range binary64 _ _ (s .before .good .0 .1) (s .fabs .ensures) (c .if4 .taken)
+
+int-to-float-cut : tie.Need-int-to-float-cut
+int-to-float-cut c =
+    let t = c .before in
+    let s = t .before .before .before in
+    code.cut-casts binary64 _ _ (s .before .good .0 .1) (s .fabs .ensures) (t .before .if4 .taken) _
+    (code.held _ _ (t .truncating-f64-to-i64 .ensures))
 
 returns-4 : tie.Need-returns-4
 returns-4 c =
-    let s = c .before .before .before .before in
-    code.minus-zero binary64 _ _ (s .before .before .good .0 .1) (s .bits-of .ensures) (c .before .before .if3 .taken) (c .if5 .taken)
+    let t = c .before .before in
+    let s = t .before .before .before in
+    code.one-less binary64 _ _ (s .before .good .0 .1) (s .fabs .ensures) (t .before .if4 .taken) _
+    (code.held _ _ (t .truncating-f64-to-i64 .ensures)) (t .before .before .if1 .left) (c .if5 .taken)
 
 returns-5 : tie.Need-returns-5
 returns-5 c =
-    let s = c .before .before .before .before in
-    code.above-minus-one binary64 _ _ (s .before .before .good .0 .1) (s .bits-of .ensures) (c .before .before .if3 .taken) (c .before .if4 .left) (c .if5 .left)
-
-shr-m : tie.Need-shr-m
-shr-m c = search needs
-
-returns-6 : tie.Need-returns-6
-returns-6 c =
-    let s = c .before .before .before in
-    code.digits-clear binary64 _ _ (s .before .before .good .0 .1) (s .bits-of .ensures) (c .before .if3 .left) (c .before .before .if2 .left) (c .if6 .taken)
-
-returns-7 : tie.Need-returns-7
-returns-7 c =
-    let s = c .before .before .before .before in
-    code.cut-off binary64 _ _ (s .before .before .good .0 .1) (s .bits-of .ensures) (c .before .before .if3 .left) (c .before .before .before .if2 .left) (c .if7 .taken) (c .before .if6 .left)
-
-float-from-bits-result : tie.Need-float-from-bits-result
-float-from-bits-result c =
-    let s = c .before .before .before .before in
-    code.number binary64 _ _ (s .before .before .good .0 .1) (s .bits-of .ensures) (s .before .if1 .left) _ (returns-7 c)
-
-add-result : tie.Need-add-result
-add-result c =
-    let s = c .before .before .before .before in
-    record { fits = code.mask-fits binary64 _ _ (s .before .before .good .0 .1) (s .bits-of .ensures) (c .before .before .if3 .left) (c .before .before .before .if2 .left) }
-
-returns-8 : tie.Need-returns-8
-returns-8 c =
-    let s = c .before .before .before .before in
-    code.rounded-away binary64 _ _ (s .before .before .good .0 .1) (s .bits-of .ensures) (c .before .before .if3 .left) (c .before .before .before .if2 .left) (c .if7 .left) (c .before .if6 .left)
-
-float-from-bits-result-2 : tie.Need-float-from-bits-result-2
-float-from-bits-result-2 c =
-    let s = c .before .before .before .before in
-    code.number binary64 _ _ (s .before .before .good .0 .1) (s .bits-of .ensures) (s .before .if1 .left) _ (returns-8 c)
+    let t = c .before .before in
+    let s = t .before .before .before in
+    code.cut-off binary64 _ _ (s .before .good .0 .1) (s .fabs .ensures) (t .before .if4 .taken) _
+    (code.held _ _ (t .truncating-f64-to-i64 .ensures)) (t .before .before .if1 .left) (c .if5 .left)
 
 pub floor-spec : {M : Type 1} → statement M
 floor-spec =
     tie.close
     (tie.spec
+    fabs-requires
+    truncating-f64-to-i64-requires
+    int-to-float-cut
     returns
-    bits-of-requires
     returns-2
     returns-3
     returns-4
     returns-5
-    shr-m
-    returns-6
-    float-from-bits-result
-    returns-7
-    add-result
-    float-from-bits-result-2
-    returns-8)
+    returns-6)
