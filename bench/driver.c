@@ -2,7 +2,7 @@
  * driver.c: the port beside crate libm, glibc and musl on the same arguments, and its feed beside its batch on the same
  * records, for bench/run.
  *
- *     driver names                        what can be timed: lines WHAT LIBRARY LIBRARY, the two that are compared
+ *     driver names                        what can be timed: lines WHAT LIBRARY LIBRARY.., those that are compared
  *     driver same SEED                    a pass of both of each, whose answers are compared
  *     driver times SEED                   times all of it: lines WHAT LIBRARY NANOSECONDS-A-CALL
  *     driver passes WHAT LIBRARY COUNT    so many passes of one library, for a counter of instructions
@@ -10,7 +10,8 @@
  * A pass is 4,000 arguments spread evenly over the function's regions, of both signs, shuffled. The libraries take turns,
  * and the best of REPEATS passes counts. After each turn every answer of the port is held to the Rust's, and of the feed to
  * the batch's: where one differs, the function and the argument are said and the status is 1. musl's functions are those of
- * its libc.a with the prefix musl_, where HAVE_MUSL is set. The feed is timed where HAVE_FEED is set. kinds.h is made from
+ * its libc.a with the prefix musl_, where HAVE_MUSL is set; the entries of an earlier port have the prefix earlier_, where
+ * HAVE_EARLIER is set, and its answers are held to the port's. The feed is timed where HAVE_FEED is set. kinds.h is made from
  * kinds.txt, and a function finds its kind there by its name.
  */
 #define _GNU_SOURCE
@@ -23,7 +24,7 @@
 #include <time.h>
 #include <unistd.h>
 
-enum { COUNT = 4000, REPEATS = 300, PORT = 0, RUST = 1, LIBRARIES = 4, LONGEST = 32, SHOWN = 20 };
+enum { COUNT = 4000, REPEATS = 300, PORT = 0, RUST = 1, EARLIER = 2, LIBRARIES = 5, LONGEST = 32, SHOWN = 20 };
 
 uint64_t rust_tgamma(uint64_t x), rust_lgamma_r(uint64_t x), rust_erf(uint64_t x), rust_erfc(uint64_t x);
 uint32_t rust_lgammaf_r(uint32_t x), rust_erff(uint32_t x), rust_erfcf(uint32_t x);
@@ -64,7 +65,19 @@ BY_BITS_F32(by_musl_erfcf, musl_erfcf(f32_of(x)))
 #define MUSL(name) NULL
 #endif
 
-static const char *const LIBRARY[LIBRARIES] = {"port", "Rust", "glibc", "musl"};
+#ifdef HAVE_EARLIER
+uint64_t earlier_rvt_tgamma(uint64_t), earlier_rvt_lgamma_r_value(uint64_t), earlier_rvt_erf(uint64_t), earlier_rvt_erfc(uint64_t);
+uint32_t earlier_rvt_lgammaf_r_value(uint32_t), earlier_rvt_erff(uint32_t), earlier_rvt_erfcf(uint32_t);
+uint64_t earlier_rvt_batch_code(const uint8_t *, size_t, uint8_t *, size_t);
+#define EARLIER_OF(entry) earlier_##entry
+enum { SIDES = 3 };
+#else
+#define EARLIER_OF(entry) NULL
+#define earlier_rvt_batch_code rvt_batch_code
+enum { SIDES = 2 };
+#endif
+
+static const char *const LIBRARY[LIBRARIES] = {"port", "Rust", "earlier", "glibc", "musl"};
 
 /* The kinds of kinds.txt. */
 struct kind {
@@ -115,13 +128,13 @@ struct function {
 };
 
 static const struct function FUNCTIONS[] = {
-    {"tgamma", &GAMMA, {rvt_tgamma, rust_tgamma, glibc_tgamma, MUSL(tgamma)}, {NULL}},
-    {"lgamma_r", &LGAMMA, {rvt_lgamma_r_value, rust_lgamma_r, glibc_lgamma_r, MUSL(lgamma_r)}, {NULL}},
-    {"erf", &ERF, {rvt_erf, rust_erf, glibc_erf, MUSL(erf)}, {NULL}},
-    {"erfc", &ERFC, {rvt_erfc, rust_erfc, glibc_erfc, MUSL(erfc)}, {NULL}},
-    {"lgammaf_r", &LGAMMAF, {NULL}, {rvt_lgammaf_r_value, rust_lgammaf_r, glibc_lgammaf_r, MUSL(lgammaf_r)}},
-    {"erff", &ERF, {NULL}, {rvt_erff, rust_erff, glibc_erff, MUSL(erff)}},
-    {"erfcf", &ERFC, {NULL}, {rvt_erfcf, rust_erfcf, glibc_erfcf, MUSL(erfcf)}},
+    {"tgamma", &GAMMA, {rvt_tgamma, rust_tgamma, EARLIER_OF(rvt_tgamma), glibc_tgamma, MUSL(tgamma)}, {NULL}},
+    {"lgamma_r", &LGAMMA, {rvt_lgamma_r_value, rust_lgamma_r, EARLIER_OF(rvt_lgamma_r_value), glibc_lgamma_r, MUSL(lgamma_r)}, {NULL}},
+    {"erf", &ERF, {rvt_erf, rust_erf, EARLIER_OF(rvt_erf), glibc_erf, MUSL(erf)}, {NULL}},
+    {"erfc", &ERFC, {rvt_erfc, rust_erfc, EARLIER_OF(rvt_erfc), glibc_erfc, MUSL(erfc)}, {NULL}},
+    {"lgammaf_r", &LGAMMAF, {NULL}, {rvt_lgammaf_r_value, rust_lgammaf_r, EARLIER_OF(rvt_lgammaf_r_value), glibc_lgammaf_r, MUSL(lgammaf_r)}},
+    {"erff", &ERF, {NULL}, {rvt_erff, rust_erff, EARLIER_OF(rvt_erff), glibc_erff, MUSL(erff)}},
+    {"erfcf", &ERFC, {NULL}, {rvt_erfcf, rust_erfcf, EARLIER_OF(rvt_erfcf), glibc_erfcf, MUSL(erfcf)}},
 };
 
 enum { FUNCTION_COUNT = sizeof FUNCTIONS / sizeof FUNCTIONS[0] };
@@ -177,7 +190,7 @@ static void make_requests(int of_erf) {
 /* ---- a pass */
 
 static uint64_t values[LIBRARIES][COUNT];
-static uint8_t answers[2][LONGEST * COUNT];
+static uint8_t answers[SIDES][LONGEST * COUNT];
 
 static void functions_pass(const struct function *f, int library) {
     uint64_t (*wide)(uint64_t) = f->f64[library], *to = values[library];
@@ -188,7 +201,8 @@ static void functions_pass(const struct function *f, int library) {
         for (int i = 0; i < COUNT; i++) to[i] = narrow((uint32_t)arguments[i]);
 }
 
-/* Two that answer the same records: the port's batch and the Rust; or, in pieces of so many bytes, its feed and its batch. */
+/* Those that answer the same records: the port's batch, the Rust and the earlier port's batch; or, in pieces of so many bytes, its feed
+ * and its batch. */
 struct pair {
     const char *name;
     int of_erf;
@@ -197,6 +211,7 @@ struct pair {
 
 static const char *const FEED[2] = {"feed", "batch"};
 static const char *const *sides(const struct pair *p) { return p->piece ? FEED : LIBRARY; }
+static int side_count(const struct pair *p) { return p->piece ? 2 : SIDES; }
 
 #ifdef HAVE_FEED
 #define FEEDS(of, of_erf) {of "feed_4k", of_erf, 4096}, {of "feed_9", of_erf, 9}, {of "feed_1", of_erf, 1},
@@ -229,7 +244,7 @@ static const struct pair *pair_named(const char *name) {
     exit(2);
 }
 
-/* The feed; the port's batch; the Rust's batch, or its loop where the records are erf's alone. */
+/* The feed; the port's batch, or the earlier port's; the Rust's batch, or its loop where the records are erf's alone. */
 static void records_pass(const struct pair *p, int side) {
     uint8_t *to = answers[side];
     uint64_t code = 0;
@@ -237,6 +252,8 @@ static void records_pass(const struct pair *p, int side) {
         code = feed_pass(p->piece, to);
     else if (p->piece || side == PORT)
         code = rvt_batch_code(requests, requests_length, to, sizeof answers[0]);
+    else if (side == EARLIER)
+        code = earlier_rvt_batch_code(requests, requests_length, to, sizeof answers[0]);
     else if (p->of_erf)
         rust_erf_records(requests, COUNT, to);
     else
@@ -249,17 +266,21 @@ static void records_pass(const struct pair *p, int side) {
 /* ---- answers that differ */
 
 /* Says a difference, where few have been said. */
-static void differs(const char *what, const char *name, uint64_t x, const char *const *by, uint64_t one, uint64_t two) {
+static void differs(const char *what, const char *name, uint64_t x, const char *by, uint64_t one, const char *other, uint64_t two) {
     static int said;
     if (said++ >= SHOWN) return;
-    fprintf(stderr, "bench: %s: %s of 0x%" PRIx64 ": %s 0x%" PRIx64 ", %s 0x%" PRIx64 "\n", what, name, x, by[0], one, by[1], two);
+    fprintf(stderr, "bench: %s: %s of 0x%" PRIx64 ": %s 0x%" PRIx64 ", %s 0x%" PRIx64 "\n", what, name, x, by, one, other, two);
 }
 
+/* The port's answers are the Rust's, and the earlier port's. */
 static void same_values(const struct function *f) {
-    if (memcmp(values[PORT], values[RUST], sizeof values[0]) == 0) return;
-    for (int i = 0; i < COUNT; i++)
-        if (values[PORT][i] != values[RUST][i]) differs("function", f->name, arguments[i], LIBRARY, values[PORT][i], values[RUST][i]);
-    exit(1);
+    const uint64_t *ours = values[PORT];
+    for (int l = RUST; l < SIDES; l++) {
+        if (memcmp(ours, values[l], sizeof values[0]) == 0) continue;
+        for (int i = 0; i < COUNT; i++)
+            if (ours[i] != values[l][i]) differs("function", f->name, arguments[i], LIBRARY[PORT], ours[i], LIBRARY[l], values[l][i]);
+        exit(1);
+    }
 }
 
 static uint64_t word(const uint8_t *bytes, size_t width) {
@@ -269,19 +290,24 @@ static uint64_t word(const uint8_t *bytes, size_t width) {
 }
 
 /* The records are told apart by their kinds. What is shown of an answer is its first value. */
-static void same_answers(const struct pair *p) {
-    if (memcmp(answers[0], answers[1], sizeof answers[0]) == 0) return;
+static void same_bytes(const struct pair *p, int side) {
+    const char *ours = sides(p)[0], *other = sides(p)[side];
+    if (memcmp(answers[0], answers[side], sizeof answers[0]) == 0) return;
     for (size_t read = 0, at = 0; read < requests_length;) {
         const struct kind *k = kind_numbered(requests[read]);
-        const uint8_t *one = answers[0] + at, *two = answers[1] + at;
+        const uint8_t *one = answers[0] + at, *two = answers[side] + at;
         size_t length = 1 + k->values + k->tail;
         if (memcmp(one, two, length) != 0)
-            differs(p->name, k->name, word(requests + read + 1, k->body), sides(p), word(one + 1, k->body), word(two + 1, k->body));
+            differs(p->name, k->name, word(requests + read + 1, k->body), ours, word(one + 1, k->body), other, word(two + 1, k->body));
         read += 1 + k->body;
         at += length;
     }
-    fprintf(stderr, "bench: %s: %s and %s wrote different bytes\n", p->name, sides(p)[0], sides(p)[1]);
+    fprintf(stderr, "bench: %s: %s and %s wrote different bytes\n", p->name, ours, other);
     exit(1);
+}
+
+static void same_answers(const struct pair *p) {
+    for (int side = 1; side < side_count(p); side++) same_bytes(p, side);
 }
 
 /* ---- the clock */
@@ -299,7 +325,7 @@ static void print_times(const char *what, const char *const *library, const doub
 }
 
 static void time_function(const struct function *f) {
-    double best[LIBRARIES] = {1e300, 1e300, 1e300, 1e300};
+    double best[LIBRARIES] = {1e300, 1e300, 1e300, 1e300, 1e300};
     make_arguments(f);
     for (int n = 0; n < REPEATS; n++) {
         for (int l = 0; l < LIBRARIES; l++) {
@@ -315,10 +341,10 @@ static void time_function(const struct function *f) {
 }
 
 static void time_records(const struct pair *p) {
-    double best[LIBRARIES] = {1e300, 1e300, 1e300, 1e300};
+    double best[LIBRARIES] = {1e300, 1e300, 1e300, 1e300, 1e300};
     if (!p->piece) make_requests(p->of_erf);
     for (int n = 0; n < REPEATS; n++) {
-        for (int side = 0; side < 2; side++) {
+        for (int side = 0; side < side_count(p); side++) {
             memset(answers[side], 0, sizeof answers[side]);
             double start = now();
             records_pass(p, side);
@@ -331,9 +357,15 @@ static void time_records(const struct pair *p) {
 
 /* ---- the commands */
 
+static void print_names(const char *what, const char *const *library, int count) {
+    printf("%s", what);
+    for (int l = 0; l < count; l++) printf(" %s", library[l]);
+    puts("");
+}
+
 static int names(void) {
-    for (size_t i = 0; i < FUNCTION_COUNT; i++) printf("%s %s %s\n", FUNCTIONS[i].name, LIBRARY[PORT], LIBRARY[RUST]);
-    for (const struct pair *p = PAIRS; p < PAIRS + PAIR_COUNT; p++) printf("%s %s %s\n", p->name, sides(p)[0], sides(p)[1]);
+    for (size_t i = 0; i < FUNCTION_COUNT; i++) print_names(FUNCTIONS[i].name, LIBRARY, SIDES);
+    for (const struct pair *p = PAIRS; p < PAIRS + PAIR_COUNT; p++) print_names(p->name, sides(p), side_count(p));
     for (size_t i = 0; i < KIND_COUNT; i++)
         if (!function_named(KINDS[i].name)) fprintf(stderr, "bench: kind %d, %s, is not timed\n", KINDS[i].number, KINDS[i].name);
     return 0;
@@ -360,15 +392,13 @@ static int same(uint64_t seed) {
     state = seed;
     for (size_t i = 0; i < FUNCTION_COUNT; i++) {
         make_arguments(&FUNCTIONS[i]);
-        functions_pass(&FUNCTIONS[i], PORT);
-        functions_pass(&FUNCTIONS[i], RUST);
+        for (int l = 0; l < SIDES; l++) functions_pass(&FUNCTIONS[i], l);
         same_values(&FUNCTIONS[i]);
     }
     for (const struct pair *p = PAIRS; p < PAIRS + PAIR_COUNT; p++) {
         if (!p->piece) make_requests(p->of_erf);
         memset(answers, 0, sizeof answers);
-        records_pass(p, 0);
-        records_pass(p, 1);
+        for (int side = 0; side < side_count(p); side++) records_pass(p, side);
         same_answers(p);
     }
     return 0;
@@ -377,7 +407,13 @@ static int same(uint64_t seed) {
 static int passes(const char *what, const char *library, long count) {
     const struct function *f = function_named(what);
     const struct pair *p = f ? NULL : pair_named(what);
-    int side = strcmp(library, p ? sides(p)[0] : LIBRARY[PORT]) != 0;
+    const char *const *library_of = p ? sides(p) : LIBRARY;
+    int side = 0, sides_of = p ? side_count(p) : SIDES;
+    while (side < sides_of && strcmp(library, library_of[side]) != 0) side++;
+    if (side == sides_of) {
+        fprintf(stderr, "driver: %s is not timed of %s\n", what, library);
+        return 2;
+    }
     state = 1;
     if (f) make_arguments(f);
     else make_requests(p->of_erf);

@@ -1,5 +1,6 @@
 # summary.awk: lines RUN WHAT LIBRARY NUMBER to lines WHAT LIBRARY MEDIAN and WHAT ratio LEAST MEDIAN MOST, of the port to the Rust, or of
-# the feed to the batch, run by run. The ratios have two places, or as many as `places` says.
+# the feed to the batch, run by run; and WHAT change LEAST MEDIAN MOST, of the port to the earlier one. The ratios have two places, or as
+# many as `places` says.
 function add(what, column, number) {
     if (!((what, column) in many)) many[what, column] = 0
     list[what, column, ++many[what, column]] = number
@@ -11,19 +12,24 @@ function sorted(what, column,    i, j, n, t) {
     return n
 }
 function median(n) { return n % 2 ? one[(n + 1) / 2] : (one[n / 2] + one[n / 2 + 1]) / 2 }
+function quotient(what, column,    n) {
+    n = sorted(what, column)
+    if (n > 0) printf "%s %s " ratio " " ratio " " ratio "\n", what, column, one[1], median(n), one[n]
+}
 {
     if (!($2 in seen)) { seen[$2] = 1; names[++count] = $2 }
     add($2, $3, $4)
     if ($3 == "port" || $3 == "feed") ours[$1, $2] = $4
     if ($3 == "Rust" || $3 == "batch") add($2, "ratio", ours[$1, $2] / $4)
+    if ($3 == "earlier") add($2, "change", ours[$1, $2] / $4)
 }
 END {
     if (places == "") places = 2
     ratio = "%." places "f"
-    libraries = split("port Rust glibc musl feed batch", library, " ")
+    libraries = split("port Rust earlier glibc musl feed batch", library, " ")
     for (i = 1; i <= count; i++) {
         for (l = 1; l <= libraries; l++) if ((names[i], library[l]) in many) { n = sorted(names[i], library[l]); printf "%s %s %.1f\n", names[i], library[l], median(n) }
-        n = sorted(names[i], "ratio")
-        if (n > 0) printf "%s ratio " ratio " " ratio " " ratio "\n", names[i], one[1], median(n), one[n]
+        quotient(names[i], "ratio")
+        quotient(names[i], "change")
     }
 }

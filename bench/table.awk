@@ -1,9 +1,15 @@
-# table.awk: a summary as tables in Markdown, one of the port beside the Rust and one of the feed beside the batch.
+# table.awk: a summary as tables in Markdown, one of the port beside the Rust, one of the port beside an earlier one, and one of the feed
+# beside the batch.
 /^#/ { sub(/^# /, ""); head = $0; next }
 {
     if (!($1 in seen)) { seen[$1] = 1; names[++count] = $1 }
-    if ($2 == "ratio") ratio[$1] = $3 == $5 ? $4 : sprintf("%s (%s to %s)", $4, $3, $5)
+    spread = $3 == $5 ? $4 : sprintf("%s (%s to %s)", $4, $3, $5)
+    if ($2 == "ratio") ratio[$1] = spread
+    else if ($2 == "change") { change[$1] = spread; changes = 1 }
     else { number[$1, $2] = $3; if ($2 == "glibc" || $2 == "musl") others = 1; if ($2 == "feed") feeds = 1 }
+}
+function label_of(name) {
+    return name == "batch" ? "batch of all kinds, a record" : name == "erf_records" ? "batch of erf against a loop, a record" : name
 }
 function show(name, library) { return ((name, library) in number) ? number[name, library] : "" }
 END {
@@ -13,12 +19,15 @@ END {
     for (i = 1; i <= count; i++) {
         n = names[i]
         if ((n, "feed") in number) continue
-        label = n
-        if (n == "batch") label = "batch of all kinds, a record"
-        if (n == "erf_records") label = "batch of erf against a loop, a record"
-        printf "| %s | %s | %s | %s |", label, show(n, "port"), show(n, "Rust"), ratio[n]
+        printf "| %s | %s | %s | %s |", label_of(n), show(n, "port"), show(n, "Rust"), ratio[n]
         if (others) printf " %s | %s |", show(n, "glibc"), show(n, "musl")
         print ""
+    }
+    if (changes) print "\n| | earlier | port | port / earlier |\n|---|---|---|---|"
+    for (i = 1; i <= count; i++) {
+        n = names[i]
+        label = n == "erf_records" ? "batch of erf, a record" : label_of(n)
+        if (n in change) printf "| %s | %s | %s | %s |\n", label, show(n, "earlier"), show(n, "port"), change[n]
     }
     if (feeds) print "\n| the feed, a record | feed | batch | feed / batch |\n|---|---|---|---|"
     for (i = 1; i <= count; i++) {

@@ -58,64 +58,73 @@ unfolding ofBits
 whole-from-is binary32 = (refl, refl)
 whole-from-is binary64 = (refl, refl)
 
--- ---- x < y, by any fractions that the two equal
-module _ (x y : Float) (s : Bool) (a c : ℕ) (t : Bool) (b d : ℕ) (C : 0 < c) (D : 0 < d) (v : HasValue x s a c) (w : HasValue y t b d) where
-  lt-means : lt x y ≡ true → Le t b d s a c → ⊥
-  lt-means h k = true≢false (sym h ∙ not-lt-of-le x y (le-of-signed y x t b d s a c D C w v k))
-
-  not-lt-means : lt x y ≡ false → Le t b d s a c
-  not-lt-means h =
-      signed-of-le y x t b d s a c w v
-      (le-of-not-lt x y (value-finite x s a c v) (value-finite y t b d w) (subst (λ (q : Bool). T (not q)) (sym h) tt))
-
-  lt-by : (Le t b d s a c → ⊥) → T (lt x y)
-  lt-by n = go (lt x y) not-lt-means
-    where
-      go : (q : Bool) → (q ≡ false → Le t b d s a c) → T q
-      go true k = tt
-      go false k = absurd (n (k refl))
-
--- ---- the size, beside a whole number n
-
--- x is ±d / w, and its size is below n
-record Under (x : Float) (n : ℕ) : Type 0 where
+-- ---- fractions: x is ±d / w
+record Fraction (x : Float) : Type 0 where
   s : Bool
   d : ℕ
   w : ℕ
   W : 0 < w
   v : HasValue x s d w
-  under : d < n * w
 
-size-under : (x c : Float) (n : ℕ) → HasValue c false n 1 → lt (fabsS x) c ≡ true → Under x n
+abbrev whole : (x : Float) (s : Bool) (n : ℕ) → HasValue x s n 1 → Fraction x
+whole x s n v = record { s = s; d = n; w = 1; W = pow-pos 0; v = v }
+
+abbrev its-own : (s : Bool) (m : ℕ) (e : ℤ) → Fraction (fin s m e)
+its-own s m e = record { s = s; d = m * up e; w = down e; W = down-pos e; v = (refl, refl) }
+
+abbrev zero-at : (f : Format) → Fraction (ofBits f 0)
+zero-at f = whole (ofBits f 0) false 0 (zero-is f)
+
+-- y ≤ x
+abbrev AtMost : {y x : Float} → Fraction y → Fraction x → Type 0
+AtMost q p = Le (q .s) (q .d) (q .w) (p .s) (p .d) (p .w)
+
+module _ {x y : Float} (p : Fraction x) (q : Fraction y) where
+  lt-means : lt x y ≡ true → AtMost q p → ⊥
+  lt-means h k = true≢false (sym h ∙ not-lt-of-le x y (le-of-signed y x (q .s) (q .d) (q .w) (p .s) (p .d) (p .w) (q .W) (p .W) (q .v) (p .v) k))
+
+  not-lt-means : lt x y ≡ false → AtMost q p
+  not-lt-means h =
+      signed-of-le y x (q .s) (q .d) (q .w) (p .s) (p .d) (p .w) (q .v) (p .v)
+      (le-of-not-lt x y (value-finite x (p .s) (p .d) (p .w) (p .v)) (value-finite y (q .s) (q .d) (q .w) (q .v)) (subst (λ (b : Bool). T (not b)) (sym h) tt))
+
+  lt-by : (AtMost q p → ⊥) → T (lt x y)
+  lt-by n = go (lt x y) not-lt-means
+    where
+      go : (b : Bool) → (b ≡ false → AtMost q p) → T b
+      go true k = tt
+      go false k = absurd (n (k refl))
+
+-- ---- the size beside a whole number n
+under : (x c : Float) (n : ℕ) → HasValue c false n 1 → lt (fabsS x) c ≡ true → (p : Fraction x) × (p .d < n * p .w)
 unfolding lt fabsS
-size-under nan c n v h = absurd (false≢true h)
-size-under (inf s) nan n v h = absurd v
-size-under (inf s) (inf t) n v h = absurd v
-size-under (inf s) (fin t k e) n v h = absurd (false≢true h)
-size-under (fin s m e) c n v h =
-    let l : n * down e ≤ m * up e → ⊥ =
-    λ k. lt-means (fin false m e) c false (m * up e) (down e) false n 1 (down-pos e) (pow-pos 0) (refl, refl) v h (omega arith) in
-    record { s = s; d = m * up e; w = down e; W = down-pos e; v = (refl, refl); under = lt-of-not-le l }
+under nan c n v h = absurd (false≢true h)
+under (inf s) nan n v h = absurd v
+under (inf s) (inf t) n v h = absurd v
+under (inf s) (fin t k e) n v h = absurd (false≢true h)
+under (fin s m e) c n v h =
+    let l : n * down e ≤ m * up e → ⊥ = λ k. lt-means (its-own false m e) (whole c false n v) h (omega arith) in (its-own s m e, lt-of-not-le l)
 
-size-from : (x c : Float) (n : ℕ) (s : Bool) (d w : ℕ) → 0 < w → HasValue x s d w → HasValue c false n 1 → lt (fabsS x) c ≡ false → n * w ≤ d
+from : (x : Float) (p : Fraction x) (c : Float) (n : ℕ) → HasValue c false n 1 → lt (fabsS x) c ≡ false → n * p .w ≤ p .d
 unfolding fabsS
-size-from nan c n s d w W v u h = absurd v
-size-from (inf t) c n s d w W v u h = absurd v
-size-from (fin t m e) c n s d w W v u h =
-    let k = not-lt-means (fin false m e) c false d w false n 1 W (pow-pos 0) (refl, v .1) u h in omega arith
+from nan p c n v h = absurd (p .v)
+from (inf t) p c n v h = absurd (p .v)
+from (fin t m e) p c n v h =
+    let size : Fraction (fin false m e) = record { s = false; d = p .d; w = p .w; W = p .W; v = (refl, p .v .1) } in
+    let k = not-lt-means size (whole c false n v) h in omega arith
 
 -- ---- whole numbers: ±q
 abbrev signed : Bool → ℕ → ℤ
 signed s q = cond s (negℤ (pos q)) (pos q)
 
-toward-zero : (x : Float) (s : Bool) (d w : ℕ) → 0 < w → HasValue x s d w → d / w < 2 ^ 63 → toSigned 63 x ≡ signed s (d / w)
+toward-zero : (x : Float) (p : Fraction x) → p .d / p .w < 2 ^ 63 → toSigned 63 x ≡ signed (p .s) (p .d / p .w)
 unfolding toSigned
-toward-zero nan s d w W v l = absurd v
-toward-zero (inf t) s d w W v l = absurd v
-toward-zero (fin t m e) s d w W v l =
-    let a : min (d / w) (2 ^ 63) ≡ d / w = omega arith in
-    let b : min (d / w) (2 ^ 63 - 1) ≡ d / w = omega arith in
-    rw (v .0, div-same (m * up e) (down e) d w (down-pos e) W (v .1), a, b)
+toward-zero nan p l = absurd (p .v)
+toward-zero (inf t) p l = absurd (p .v)
+toward-zero (fin t m e) p l =
+    let a : min (p .d / p .w) (2 ^ 63) ≡ p .d / p .w = omega arith in
+    let b : min (p .d / p .w) (2 ^ 63 - 1) ≡ p .d / p .w = omega arith in
+    rw (p .v .0, div-same (m * up e) (down e) (p .d) (p .w) (down-pos e) (p .W) (p .v .1), a, b)
 
 -- an i64 that is read back from its bits
 pub held : (x : Float) (n : ℤ) → n ≡ toSigned 63 x → toZ w64 (ofZ w64 n) ≡ toSigned 63 x
@@ -142,6 +151,14 @@ next-down f y q v l =
     )
     (unfold sum in rw (add-one q) (round-whole f true (suc q) l))
 
+-- ---- a fraction that is whole stays, and any other falls
+stay : (f : Format) {x : Float} (p : Fraction x) → p .d % p .w ≡ 0 → x ≡ floorS f x
+stay f {x} p = stays f x (p .s) (p .d) (p .w) (p .W) (p .v)
+
+fall : (f : Format) {x : Float} (p : Fraction x) → 0 < p .d % p .w → p .d / p .w < 2 ^ prec f → (y : Float) → T (fits f y)
+    → HasValue y (p .s) (sizeBelow (p .s) (p .d / p .w)) 1 → y ≡ floorS f x
+fall f {x} p r = falls f x (p .s) (p .d) (p .w) (p .W) (p .v) (λ e. lt-irrefl 0 (subst (λ (n : ℕ). 0 < n) e r))
+
 -- ---- the returns, by the tests that lead to them
 module _ (f : Format) (x size : Float) (fit : fits f x ≡ true) (is : size ≡ fabsS x) where
   F : T (fits f x)
@@ -150,127 +167,120 @@ module _ (f : Format) (x size : Float) (fit : fits f x ≡ true) (is : size ≡ 
   test : (b : ℕ) (r : Bool) → lt size (ofBits f b) ≡ r → lt (fabsS x) (ofBits f b) ≡ r
   test b r h = ap (λ (z : Float). lt z (ofBits f b)) (sym is) ∙ h
 
-  -- size below one: ±d / w with d < w
+  -- size below one
   module _ (small : lt size (ofBits f (one f)) ≡ true) where
-    t : Under x 1
-    t = size-under x (ofBits f (one f)) 1 (one-is f) (test (one f) true small)
+    t : (p : Fraction x) × (p .d < 1 * p .w)
+    t = under x (ofBits f (one f)) 1 (one-is f) (test (one f) true small)
 
-    tiny : t .d < t .w
-    tiny = let l = t .under in omega arith
-
-    falls-to : (s : Bool) → HasValue x s (t .d) (t .w) → 0 < t .d → (b : ℕ) → HasValue (ofBits f b) s (sizeBelow s 0) 1 → ofBits f b ≡ floorS f x
-    falls-to s v p b u =
-        let none : t .d / t .w ≡ 0 = div-eq-of-lt tiny in
-        falls f x s (t .d) (t .w) (t .W) v
-        (λ e. lt-irrefl 0 (subst (λ (n : ℕ). 0 < n) (sym (mod-eq-of-lt tiny) ∙ e) p))
-        (subst (λ (n : ℕ). n < 2 ^ prec f) (sym none) (pow-pos (prec f)))
-        (ofBits f b) (ofBits-fits f b)
-        (subst (λ (n : ℕ). HasValue (ofBits f b) s (sizeBelow s n) 1) (sym none) u)
+    falls-to : (b : ℕ) → 0 < t .0 .d → HasValue (ofBits f b) (t .0 .s) (sizeBelow (t .0 .s) 0) 1 → ofBits f b ≡ floorS f x
+    falls-to b p v =
+        let l : t .0 .d < t .0 .w = omega (arith, t .1) in
+        let none : t .0 .d / t .0 .w ≡ 0 = div-eq-of-lt l in
+        fall f (t .0) (rw (mod-eq-of-lt l) p) (rw none (pow-pos (prec f))) (ofBits f b) (ofBits-fits f b) (rw none v)
 
     pub below-zero : lt x (ofBits f 0) ≡ true → ofBits f (minusOne f) ≡ floorS f x
-    below-zero h = go (t .s) (t .v) (lt-means x (ofBits f 0) (t .s) (t .d) (t .w) false 0 1 (t .W) (pow-pos 0) (t .v) (zero-is f) h)
+    below-zero h = let z = go (t .0 .s) (lt-means (t .0) (zero-at f) h) in falls-to (minusOne f) (z .1) (rw (z .0) (minus-one-is f))
       where
-        go : (s : Bool) → HasValue x s (t .d) (t .w) → (Le false 0 1 s (t .d) (t .w) → ⊥) → ofBits f (minusOne f) ≡ floorS f x
-        go false v n = absurd (n (omega arith))
-        go true v n = falls-to true v (lt-of-not-le (λ (k : t .d ≤ 0). n (omega arith))) (minusOne f) (minus-one-is f)
+        go : (s : Bool) → (Le false 0 1 s (t .0 .d) (t .0 .w) → ⊥) → (s ≡ true) × (0 < t .0 .d)
+        go false n = absurd (n (omega arith))
+        go true n = (refl, lt-of-not-le (λ (k : t .0 .d ≤ 0). n (omega arith)))
 
     pub above-zero : lt (ofBits f 0) x ≡ true → ofBits f 0 ≡ floorS f x
-    above-zero h = go (t .s) (t .v) (lt-means (ofBits f 0) x false 0 1 (t .s) (t .d) (t .w) (pow-pos 0) (t .W) (zero-is f) (t .v) h)
+    above-zero h = let z = go (t .0 .s) (lt-means (zero-at f) (t .0) h) in falls-to 0 (z .1) (rw (z .0) (zero-is f))
       where
-        go : (s : Bool) → HasValue x s (t .d) (t .w) → (Le s (t .d) (t .w) false 0 1 → ⊥) → ofBits f 0 ≡ floorS f x
-        go true v n = absurd (n (omega arith))
-        go false v n = falls-to false v (lt-of-not-le (λ (k : t .d ≤ 0). n (omega arith))) 0 (zero-is f)
+        go : (s : Bool) → (Le s (t .0 .d) (t .0 .w) false 0 1 → ⊥) → (s ≡ false) × (0 < t .0 .d)
+        go true n = absurd (n (omega arith))
+        go false n = (refl, lt-of-not-le (λ (k : t .0 .d ≤ 0). n (omega arith)))
 
     pub at-zero : lt x (ofBits f 0) ≡ false → lt (ofBits f 0) x ≡ false → x ≡ floorS f x
     at-zero h k =
-        stays f x (t .s) (t .d) (t .w) (t .W) (t .v)
-        (ap (λ (n : ℕ). n % t .w)
-        (go (t .s)
-        (not-lt-means x (ofBits f 0) (t .s) (t .d) (t .w) false 0 1 (t .W) (pow-pos 0) (t .v) (zero-is f) h)
-        (not-lt-means (ofBits f 0) x false 0 1 (t .s) (t .d) (t .w) (pow-pos 0) (t .W) (zero-is f) (t .v) k))
-        ∙ zero-mod (t .w))
+        stay f (t .0)
+        (rw (go (t .0 .s) (not-lt-means (t .0) (zero-at f) h) (not-lt-means (zero-at f) (t .0) k)) (zero-mod (t .0 .w)))
       where
-        go : (s : Bool) → Le false 0 1 s (t .d) (t .w) → Le s (t .d) (t .w) false 0 1 → t .d ≡ 0
+        go : (s : Bool) → Le false 0 1 s (t .0 .d) (t .0 .w) → Le s (t .0 .d) (t .0 .w) false 0 1 → t .0 .d ≡ 0
         go false a b = omega arith
         go true a b = omega arith
 
-  -- a fraction still present, or room for one: ±d / w, whose whole part q fits
+  -- a fraction still present, or room for one: the whole part q of the size fits
   module _ (room : lt size (ofBits f (wholeFrom f)) ≡ true) where
-    u : Under x (hid f)
-    u = size-under x (ofBits f (wholeFrom f)) (hid f) (whole-from-is f) (test (wholeFrom f) true room)
+    u : (p : Fraction x) × (p .d < hid f * p .w)
+    u = under x (ofBits f (wholeFrom f)) (hid f) (whole-from-is f) (test (wholeFrom f) true room)
 
     abbrev q : ℕ
-    q = u .d / u .w
+    q = u .0 .d / u .0 .w
 
     q-under : (q < 2 ^ prec f) × (q < 2 ^ 63)
-    q-under = go f q (div-lt-iff-lt-mul (u .W) .1 (u .under))
+    q-under = go f q (div-lt-iff-lt-mul (u .0 .W) .1 (u .1))
       where
         go : (f : Format) (q : ℕ) → q < hid f → (q < 2 ^ prec f) × (q < 2 ^ 63)
         go binary32 q h = (omega arith, omega arith)
         go binary64 q h = (omega arith, omega arith)
 
     pub in-range : T (le (fin true 1 (pos 63)) x) × T (lt x (fin false 1 (pos 63)))
-    in-range = (
-      le-of-signed (fin true 1 (pos 63)) x true (2 ^ 63) 1 (u .s) (u .d) (u .w) (pow-pos 0) (u .W) (refl, refl) (u .v) (go f (u .s) (u .under) .0),
-      lt-by x (fin false 1 (pos 63)) (u .s) (u .d) (u .w) false (2 ^ 63) 1 (u .W) (pow-pos 0) (u .v) (refl, refl) (go f (u .s) (u .under) .1),
-    )
+    in-range =
+        let k = go f (u .0 .s) (u .1) in (
+          le-of-signed (fin true 1 (pos 63)) x true (2 ^ 63) 1 (u .0 .s) (u .0 .d) (u .0 .w) (pow-pos 0) (u .0 .W) (refl, refl) (u .0 .v) (k .0),
+          lt-by (u .0) (its-own false 1 (pos 63)) (k .1),
+        )
       where
-        go : (f : Format) (s : Bool) → u .d < hid f * u .w → Le true (2 ^ 63) 1 s (u .d) (u .w) × (Le false (2 ^ 63) 1 s (u .d) (u .w) → ⊥)
+        go : (f : Format) (s : Bool) → u .0 .d < hid f * u .0 .w
+            → Le true (2 ^ 63) 1 s (u .0 .d) (u .0 .w) × (Le false (2 ^ 63) 1 s (u .0 .d) (u .0 .w) → ⊥)
         go binary32 false h = (omega arith, λ k. omega arith)
         go binary32 true h = (omega arith, λ k. omega arith)
         go binary64 false h = (omega arith, λ k. omega arith)
         go binary64 true h = (omega arith, λ k. omega arith)
 
-    -- n is x without its fraction
+    -- n is x without its fraction, and y the float that it makes
     module _ (n : ℤ) (cut : n ≡ toSigned 63 x) where
-      n-is : n ≡ signed (u .s) q
-      n-is = cut ∙ toward-zero x (u .s) (u .d) (u .w) (u .W) (u .v) (q-under .1)
+      n-is : n ≡ signed (u .0 .s) q
+      n-is = cut ∙ toward-zero x (u .0) (q-under .1)
 
       pub cut-casts : T (inFloat f n)
-      cut-casts = rw n-is (may-be-float f (u .s) q (le-of-lt (q-under .0)))
+      cut-casts = rw n-is (may-be-float f (u .0 .s) q (le-of-lt (q-under .0)))
 
       module _ (large : lt size (ofBits f (one f)) ≡ false) where
-        cut-is : HasValue (ofInt f n) (u .s) q 1
-        cut-is =
-            rw n-is
-            (as-float f (u .s) q
-            (le-div-iff-mul-le (u .W) .1 (size-from x (ofBits f (one f)) 1 (u .s) (u .d) (u .w) (u .W) (u .v) (one-is f) (test (one f) false large)))
-            (le-of-lt (q-under .0)))
+        y-is : HasValue (ofInt f n) (u .0 .s) q 1
+        y-is =
+            let o = from x (u .0) (ofBits f (one f)) 1 (one-is f) (test (one f) false large) in
+            rw n-is (as-float f (u .0 .s) q (le-div-iff-mul-le (u .0 .W) .1 o) (le-of-lt (q-under .0)))
 
-        -- the cut went up
-        pub one-less : lt x (ofInt f n) ≡ true → sub f (ofInt f n) (ofBits f (one f)) ≡ floorS f x
-        one-less h = go (u .s) (u .v) cut-is (lt-means x (ofInt f n) (u .s) (u .d) (u .w) (u .s) q 1 (u .W) (pow-pos 0) (u .v) cut-is h)
+        abbrev y : Fraction (ofInt f n)
+        y = whole (ofInt f n) (u .0 .s) q y-is
+
+        -- y lies above x only below zero, and where something was cut off
+        above : (Le (u .0 .s) q 1 (u .0 .s) (u .0 .d) (u .0 .w) → ⊥) → (u .0 .s ≡ true) × (0 < u .0 .d % u .0 .w)
+        above = go (u .0 .s)
           where
-            go : (s : Bool) → HasValue x s (u .d) (u .w) → HasValue (ofInt f n) s q 1 → (Le s q 1 s (u .d) (u .w) → ⊥)
-                → sub f (ofInt f n) (ofBits f (one f)) ≡ floorS f x
-            go false v y k = absurd (k (omega (arith, div-add-mod' (u .d) (u .w))))
-            go true v y k =
-                falls f x true (u .d) (u .w) (u .W) v (λ (z : u .d % u .w ≡ 0). k (omega (arith, div-add-mod' (u .d) (u .w)))) (q-under .0)
-                (sub f (ofInt f n) (ofBits f (one f))) (sub-fits f (ofInt f n) (ofBits f (one f)))
-                (next-down f (ofInt f n) q y (q-under .0))
+            go : (s : Bool) → (Le s q 1 s (u .0 .d) (u .0 .w) → ⊥) → (s ≡ true) × (0 < u .0 .d % u .0 .w)
+            go false k = absurd (k (omega (arith, div-add-mod' (u .0 .d) (u .0 .w))))
+            go true k = (refl, lt-of-not-le (λ (z : u .0 .d % u .0 .w ≤ 0). k (omega (arith, div-add-mod' (u .0 .d) (u .0 .w)))))
 
-        -- it went down, or nothing was cut off
+        pub one-less : lt x (ofInt f n) ≡ true → sub f (ofInt f n) (ofBits f (one f)) ≡ floorS f x
+        one-less h =
+            let z = above (lt-means (u .0) y h) in
+            fall f (u .0) (z .1) (q-under .0) (sub f (ofInt f n) (ofBits f (one f))) (sub-fits f (ofInt f n) (ofBits f (one f)))
+            (rw (z .0) (next-down f (ofInt f n) q (rw (z .0) at y-is) (q-under .0)))
+
         pub cut-off : lt x (ofInt f n) ≡ false → ofInt f n ≡ floorS f x
         cut-off h =
-            elim (eq-zero-or-pos (u .d % u .w)) [
-              | inl z ↦ whole z
-              | inr p ↦ go (u .s) (u .v) cut-is p (not-lt-means x (ofInt f n) (u .s) (u .d) (u .w) (u .s) q 1 (u .W) (pow-pos 0) (u .v) cut-is h)
+            elim (eq-zero-or-pos (u .0 .d % u .0 .w)) [
+              | inl z ↦ all z
+              | inr r ↦ fall f (u .0) r (q-under .0) (ofInt f n) (ofInt-fits f n) (go (u .0 .s) y-is r (not-lt-means (u .0) y h))
             ]
           where
-            whole : u .d % u .w ≡ 0 → ofInt f n ≡ floorS f x
-            whole z =
-                let e : u .d ≡ q * u .w = omega (arith, div-add-mod' (u .d) (u .w)) in
-                let i : u .w ≡ 1 * u .w = omega arith in
-                whole-unique f (ofInt f n) x (u .s) q (ofInt-fits f n) F cut-is
-                (value-shorter x (u .s) q 1 (u .w) (u .W)
-                (subst (λ (k : ℕ). HasValue x (u .s) (q * u .w) k) i (subst (λ (k : ℕ). HasValue x (u .s) k (u .w)) e (u .v))))
-                ∙ stays f x (u .s) (u .d) (u .w) (u .W) (u .v) z
+            -- nothing was cut off
+            all : u .0 .d % u .0 .w ≡ 0 → ofInt f n ≡ floorS f x
+            all z =
+                let e : u .0 .d ≡ q * u .0 .w = omega (arith, div-add-mod' (u .0 .d) (u .0 .w)) in
+                let i : u .0 .w ≡ 1 * u .0 .w = omega arith in
+                whole-unique f (ofInt f n) x (u .0 .s) q (ofInt-fits f n) F y-is
+                (value-shorter x (u .0 .s) q 1 (u .0 .w) (u .0 .W)
+                (subst (λ (k : ℕ). HasValue x (u .0 .s) (q * u .0 .w) k) i (subst (λ (k : ℕ). HasValue x (u .0 .s) k (u .0 .w)) e (u .0 .v))))
+                ∙ stay f (u .0) z
 
-            go : (s : Bool) → HasValue x s (u .d) (u .w) → HasValue (ofInt f n) s q 1 → 0 < u .d % u .w → Le s q 1 s (u .d) (u .w) → ofInt f n ≡ floorS f x
-            go true v y p k = absurd (lt-irrefl 0 (omega (arith, div-add-mod' (u .d) (u .w))))
-            go false v y p k =
-                falls f x false (u .d) (u .w) (u .W) v (λ (z : u .d % u .w ≡ 0). lt-irrefl 0 (subst (λ (k : ℕ). 0 < k) z p)) (q-under .0)
-                (ofInt f n) (ofInt-fits f n) y
+            go : (s : Bool) → HasValue (ofInt f n) s q 1 → 0 < u .0 .d % u .0 .w → Le s q 1 s (u .0 .d) (u .0 .w) → HasValue (ofInt f n) s (sizeBelow s q) 1
+            go true v r k = absurd (lt-irrefl 0 (omega (arith, div-add-mod' (u .0 .d) (u .0 .w))))
+            go false v r k = v
 
   -- no fraction possible
   pub no-fraction : lt size (ofBits f (wholeFrom f)) ≡ false → x ≡ floorS f x
@@ -280,9 +290,9 @@ module _ (f : Format) (x size : Float) (fit : fits f x ≡ true) (is : size ≡ 
       go nan F h = unfold floorS in refl
       go (inf s) F h = sym (floor-inf f s)
       go (fin s m e) F h =
-          let k = size-from (fin s m e) (ofBits f (wholeFrom f)) (hid f) s (m * up e) (down e) (down-pos e) (refl, refl) (whole-from-is f) h in
+          let k = from (fin s m e) (its-own s m e) (ofBits f (wholeFrom f)) (hid f) (whole-from-is f) h in
           elim (eq-zero-or-pos (m * up e % down e)) [
-            | inl z ↦ stays f (fin s m e) s (m * up e) (down e) (down-pos e) (refl, refl) z
-            | inr p ↦
-                absurd (not-le-of-lt (part-small f s m e F (λ z. lt-irrefl 0 (subst (λ (n : ℕ). 0 < n) z p))) (le-div-iff-mul-le (down-pos e) .1 k))
+            | inl z ↦ stay f (its-own s m e) z
+            | inr r ↦
+                absurd (not-le-of-lt (part-small f s m e F (λ z. lt-irrefl 0 (subst (λ (n : ℕ). 0 < n) z r))) (le-div-iff-mul-le (down-pos e) .1 k))
           ]
