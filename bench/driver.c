@@ -3,7 +3,7 @@
  * records, for bench/run.
  *
  *     driver names                        what can be timed: lines WHAT LIBRARY LIBRARY.., those that are compared
- *     driver same SEED                    a pass of both of each, whose answers are compared
+ *     driver same SEED                    a pass of each, whose answers are compared
  *     driver times SEED                   times all of it: lines WHAT LIBRARY NANOSECONDS-A-CALL
  *     driver passes WHAT LIBRARY COUNT    so many passes of one library, for a counter of instructions
  *

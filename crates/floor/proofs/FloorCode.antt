@@ -20,25 +20,26 @@ use lib.Ieee.Nearest.{div-same}
 use mir.Syntax.{w64}
 use mir.Val.{toZ, ofZ}
 use mir.ValLaws.{toZ-ofZ}
-use Rattle.rounding.proofs.Signed.{Le, le-of-signed, signed-of-le, value-finite, value-neg, value-shorter}
+use Rattle.rounding.proofs.Signed.{Le, le-of-signed, signed-of-le, value-finite, value-neg}
 use Rattle.rounding.proofs.Order.{le-of-not-lt, not-lt-of-le}
 use Rattle.rounding.proofs.Fraction.{sub-is}
 use Rattle.rounding.proofs.Units.{add-units}
 use Rattle.words.specs.Fabs.{fabsS}
 use Rattle.floor.specs.Floor.{floorS}
-use Rattle.floor.proofs.FloorValues.{sizeBelow, stays, falls, floor-inf, part-small}
+use Rattle.floor.proofs.FloorValues.{sizeBelow, stays, falls, whole-value, floor-inf, part-small}
+use Rattle.floor.proofs.FloorLaws.{wholeFrom}
 
 -- ---- the numbers of the code, by their patterns: 1, -1, and 2 ^ (prec - 1), from which on every number is whole
 abbrev one : Format → ℕ
 one f = emax f * hid f
 
-abbrev minusOne : Format → ℕ
+abbrev pub minusOne : Format → ℕ
 minusOne f = top f + one f
 
-abbrev wholeFrom : Format → ℕ
-wholeFrom f = (emax f + (prec f - 1)) * hid f
+abbrev allWhole : Format → ℕ
+allWhole f = wholeFrom f * hid f
 
-zero-is : (f : Format) → HasValue (ofBits f 0) false 0 1
+pub zero-is : (f : Format) → HasValue (ofBits f 0) false 0 1
 unfolding ofBits
 zero-is binary32 = (refl, refl)
 zero-is binary64 = (refl, refl)
@@ -48,38 +49,38 @@ unfolding ofBits
 one-is binary32 = (refl, refl)
 one-is binary64 = (refl, refl)
 
-minus-one-is : (f : Format) → HasValue (ofBits f (minusOne f)) true 1 1
+pub minus-one-is : (f : Format) → HasValue (ofBits f (minusOne f)) true 1 1
 unfolding ofBits
 minus-one-is binary32 = (refl, refl)
 minus-one-is binary64 = (refl, refl)
 
-whole-from-is : (f : Format) → HasValue (ofBits f (wholeFrom f)) false (hid f) 1
+all-whole-is : (f : Format) → HasValue (ofBits f (allWhole f)) false (hid f) 1
 unfolding ofBits
-whole-from-is binary32 = (refl, refl)
-whole-from-is binary64 = (refl, refl)
+all-whole-is binary32 = (refl, refl)
+all-whole-is binary64 = (refl, refl)
 
--- ---- fractions: x is ±d / w
-record Fraction (x : Float) : Type 0 where
+-- ---- x is ±d / w
+record Ratio (x : Float) : Type 0 where
   s : Bool
   d : ℕ
   w : ℕ
   W : 0 < w
   v : HasValue x s d w
 
-abbrev whole : (x : Float) (s : Bool) (n : ℕ) → HasValue x s n 1 → Fraction x
+abbrev whole : (x : Float) (s : Bool) (n : ℕ) → HasValue x s n 1 → Ratio x
 whole x s n v = record { s = s; d = n; w = 1; W = pow-pos 0; v = v }
 
-abbrev its-own : (s : Bool) (m : ℕ) (e : ℤ) → Fraction (fin s m e)
+abbrev its-own : (s : Bool) (m : ℕ) (e : ℤ) → Ratio (fin s m e)
 its-own s m e = record { s = s; d = m * up e; w = down e; W = down-pos e; v = (refl, refl) }
 
-abbrev zero-at : (f : Format) → Fraction (ofBits f 0)
+abbrev zero-at : (f : Format) → Ratio (ofBits f 0)
 zero-at f = whole (ofBits f 0) false 0 (zero-is f)
 
 -- y ≤ x
-abbrev AtMost : {y x : Float} → Fraction y → Fraction x → Type 0
+abbrev AtMost : {y x : Float} → Ratio y → Ratio x → Type 0
 AtMost q p = Le (q .s) (q .d) (q .w) (p .s) (p .d) (p .w)
 
-module _ {x y : Float} (p : Fraction x) (q : Fraction y) where
+module _ {x y : Float} (p : Ratio x) (q : Ratio y) where
   lt-means : lt x y ≡ true → AtMost q p → ⊥
   lt-means h k = true≢false (sym h ∙ not-lt-of-le x y (le-of-signed y x (q .s) (q .d) (q .w) (p .s) (p .d) (p .w) (q .W) (p .W) (q .v) (p .v) k))
 
@@ -95,8 +96,8 @@ module _ {x y : Float} (p : Fraction x) (q : Fraction y) where
       go true k = tt
       go false k = absurd (n (k refl))
 
--- ---- the size beside a whole number n
-under : (x c : Float) (n : ℕ) → HasValue c false n 1 → lt (fabsS x) c ≡ true → (p : Fraction x) × (p .d < n * p .w)
+-- ---- the size of x beside a whole number n: below n, or not
+under : (x c : Float) (n : ℕ) → HasValue c false n 1 → lt (fabsS x) c ≡ true → (p : Ratio x) × (p .d < n * p .w)
 unfolding lt fabsS
 under nan c n v h = absurd (false≢true h)
 under (inf s) nan n v h = absurd v
@@ -105,19 +106,19 @@ under (inf s) (fin t k e) n v h = absurd (false≢true h)
 under (fin s m e) c n v h =
     let l : n * down e ≤ m * up e → ⊥ = λ k. lt-means (its-own false m e) (whole c false n v) h (omega arith) in (its-own s m e, lt-of-not-le l)
 
-from : (x : Float) (p : Fraction x) (c : Float) (n : ℕ) → HasValue c false n 1 → lt (fabsS x) c ≡ false → n * p .w ≤ p .d
+from : (x : Float) (p : Ratio x) (c : Float) (n : ℕ) → HasValue c false n 1 → lt (fabsS x) c ≡ false → n * p .w ≤ p .d
 unfolding fabsS
 from nan p c n v h = absurd (p .v)
 from (inf t) p c n v h = absurd (p .v)
 from (fin t m e) p c n v h =
-    let size : Fraction (fin false m e) = record { s = false; d = p .d; w = p .w; W = p .W; v = (refl, p .v .1) } in
+    let size : Ratio (fin false m e) = record { s = false; d = p .d; w = p .w; W = p .W; v = (refl, p .v .1) } in
     let k = not-lt-means size (whole c false n v) h in omega arith
 
 -- ---- whole numbers: ±q
 abbrev signed : Bool → ℕ → ℤ
 signed s q = cond s (negℤ (pos q)) (pos q)
 
-toward-zero : (x : Float) (p : Fraction x) → p .d / p .w < 2 ^ 63 → toSigned 63 x ≡ signed (p .s) (p .d / p .w)
+toward-zero : (x : Float) (p : Ratio x) → p .d / p .w < 2 ^ 63 → toSigned 63 x ≡ signed (p .s) (p .d / p .w)
 unfolding toSigned
 toward-zero nan p l = absurd (p .v)
 toward-zero (inf t) p l = absurd (p .v)
@@ -151,13 +152,13 @@ next-down f y q v l =
     )
     (unfold sum in rw (add-one q) (round-whole f true (suc q) l))
 
--- ---- a fraction that is whole stays, and any other falls
-stay : (f : Format) {x : Float} (p : Fraction x) → p .d % p .w ≡ 0 → x ≡ floorS f x
-stay f {x} p = stays f x (p .s) (p .d) (p .w) (p .W) (p .v)
+-- ---- an x that is whole stays, and any other falls
+ratio-stays : (f : Format) {x : Float} (p : Ratio x) → p .d % p .w ≡ 0 → x ≡ floorS f x
+ratio-stays f {x} p = stays f x (p .s) (p .d) (p .w) (p .W) (p .v)
 
-fall : (f : Format) {x : Float} (p : Fraction x) → 0 < p .d % p .w → p .d / p .w < 2 ^ prec f → (y : Float) → T (fits f y)
+ratio-falls : (f : Format) {x : Float} (p : Ratio x) → 0 < p .d % p .w → p .d / p .w < 2 ^ prec f → (y : Float) → T (fits f y)
     → HasValue y (p .s) (sizeBelow (p .s) (p .d / p .w)) 1 → y ≡ floorS f x
-fall f {x} p r = falls f x (p .s) (p .d) (p .w) (p .W) (p .v) (λ e. lt-irrefl 0 (subst (λ (n : ℕ). 0 < n) e r))
+ratio-falls f {x} p r = falls f x (p .s) (p .d) (p .w) (p .W) (p .v) (λ e. lt-irrefl 0 (subst (λ (n : ℕ). 0 < n) e r))
 
 -- ---- the returns, by the tests that lead to them
 module _ (f : Format) (x size : Float) (fit : fits f x ≡ true) (is : size ≡ fabsS x) where
@@ -169,48 +170,56 @@ module _ (f : Format) (x size : Float) (fit : fits f x ≡ true) (is : size ≡ 
 
   -- size below one
   module _ (small : lt size (ofBits f (one f)) ≡ true) where
-    t : (p : Fraction x) × (p .d < 1 * p .w)
-    t = under x (ofBits f (one f)) 1 (one-is f) (test (one f) true small)
+    known : (p : Ratio x) × (p .d < 1 * p .w)
+    known = under x (ofBits f (one f)) 1 (one-is f) (test (one f) true small)
 
-    falls-to : (b : ℕ) → 0 < t .0 .d → HasValue (ofBits f b) (t .0 .s) (sizeBelow (t .0 .s) 0) 1 → ofBits f b ≡ floorS f x
-    falls-to b p v =
-        let l : t .0 .d < t .0 .w = omega (arith, t .1) in
-        let none : t .0 .d / t .0 .w ≡ 0 = div-eq-of-lt l in
-        fall f (t .0) (rw (mod-eq-of-lt l) p) (rw none (pow-pos (prec f))) (ofBits f b) (ofBits-fits f b) (rw none v)
+    abbrev t : Ratio x
+    t = known .0
+
+    tiny : t .d < t .w
+    tiny = omega (arith, known .1)
+
+    goes-to : (b : ℕ) → 0 < t .d → HasValue (ofBits f b) (t .s) (sizeBelow (t .s) 0) 1 → ofBits f b ≡ floorS f x
+    goes-to b p v =
+        let none : t .d / t .w ≡ 0 = div-eq-of-lt tiny in
+        ratio-falls f t (rw (mod-eq-of-lt tiny) p) (rw none (pow-pos (prec f))) (ofBits f b) (ofBits-fits f b) (rw none v)
 
     pub below-zero : lt x (ofBits f 0) ≡ true → ofBits f (minusOne f) ≡ floorS f x
-    below-zero h = let z = go (t .0 .s) (lt-means (t .0) (zero-at f) h) in falls-to (minusOne f) (z .1) (rw (z .0) (minus-one-is f))
+    below-zero h = let z = go (t .s) (lt-means t (zero-at f) h) in goes-to (minusOne f) (z .1) (rw (z .0) (minus-one-is f))
       where
-        go : (s : Bool) → (Le false 0 1 s (t .0 .d) (t .0 .w) → ⊥) → (s ≡ true) × (0 < t .0 .d)
+        go : (s : Bool) → (Le false 0 1 s (t .d) (t .w) → ⊥) → (s ≡ true) × (0 < t .d)
         go false n = absurd (n (omega arith))
-        go true n = (refl, lt-of-not-le (λ (k : t .0 .d ≤ 0). n (omega arith)))
+        go true n = (refl, lt-of-not-le (λ (k : t .d ≤ 0). n (omega arith)))
 
     pub above-zero : lt (ofBits f 0) x ≡ true → ofBits f 0 ≡ floorS f x
-    above-zero h = let z = go (t .0 .s) (lt-means (zero-at f) (t .0) h) in falls-to 0 (z .1) (rw (z .0) (zero-is f))
+    above-zero h = let z = go (t .s) (lt-means (zero-at f) t h) in goes-to 0 (z .1) (rw (z .0) (zero-is f))
       where
-        go : (s : Bool) → (Le s (t .0 .d) (t .0 .w) false 0 1 → ⊥) → (s ≡ false) × (0 < t .0 .d)
+        go : (s : Bool) → (Le s (t .d) (t .w) false 0 1 → ⊥) → (s ≡ false) × (0 < t .d)
         go true n = absurd (n (omega arith))
-        go false n = (refl, lt-of-not-le (λ (k : t .0 .d ≤ 0). n (omega arith)))
+        go false n = (refl, lt-of-not-le (λ (k : t .d ≤ 0). n (omega arith)))
 
     pub at-zero : lt x (ofBits f 0) ≡ false → lt (ofBits f 0) x ≡ false → x ≡ floorS f x
     at-zero h k =
-        stay f (t .0)
-        (rw (go (t .0 .s) (not-lt-means (t .0) (zero-at f) h) (not-lt-means (zero-at f) (t .0) k)) (zero-mod (t .0 .w)))
+        ratio-stays f t
+        (rw (go (t .s) (not-lt-means t (zero-at f) h) (not-lt-means (zero-at f) t k)) (zero-mod (t .w)))
       where
-        go : (s : Bool) → Le false 0 1 s (t .0 .d) (t .0 .w) → Le s (t .0 .d) (t .0 .w) false 0 1 → t .0 .d ≡ 0
+        go : (s : Bool) → Le false 0 1 s (t .d) (t .w) → Le s (t .d) (t .w) false 0 1 → t .d ≡ 0
         go false a b = omega arith
         go true a b = omega arith
 
   -- a fraction still present, or room for one: the whole part q of the size fits
-  module _ (room : lt size (ofBits f (wholeFrom f)) ≡ true) where
-    u : (p : Fraction x) × (p .d < hid f * p .w)
-    u = under x (ofBits f (wholeFrom f)) (hid f) (whole-from-is f) (test (wholeFrom f) true room)
+  module _ (room : lt size (ofBits f (allWhole f)) ≡ true) where
+    bounded : (p : Ratio x) × (p .d < hid f * p .w)
+    bounded = under x (ofBits f (allWhole f)) (hid f) (all-whole-is f) (test (allWhole f) true room)
+
+    abbrev u : Ratio x
+    u = bounded .0
 
     abbrev q : ℕ
-    q = u .0 .d / u .0 .w
+    q = u .d / u .w
 
     q-under : (q < 2 ^ prec f) × (q < 2 ^ 63)
-    q-under = go f q (div-lt-iff-lt-mul (u .0 .W) .1 (u .1))
+    q-under = go f q (div-lt-iff-lt-mul (u .W) .1 (bounded .1))
       where
         go : (f : Format) (q : ℕ) → q < hid f → (q < 2 ^ prec f) × (q < 2 ^ 63)
         go binary32 q h = (omega arith, omega arith)
@@ -218,13 +227,13 @@ module _ (f : Format) (x size : Float) (fit : fits f x ≡ true) (is : size ≡ 
 
     pub in-range : T (le (fin true 1 (pos 63)) x) × T (lt x (fin false 1 (pos 63)))
     in-range =
-        let k = go f (u .0 .s) (u .1) in (
-          le-of-signed (fin true 1 (pos 63)) x true (2 ^ 63) 1 (u .0 .s) (u .0 .d) (u .0 .w) (pow-pos 0) (u .0 .W) (refl, refl) (u .0 .v) (k .0),
-          lt-by (u .0) (its-own false 1 (pos 63)) (k .1),
+        let k = go f (u .s) (bounded .1) in (
+          le-of-signed (fin true 1 (pos 63)) x true (2 ^ 63) 1 (u .s) (u .d) (u .w) (pow-pos 0) (u .W) (refl, refl) (u .v) (k .0),
+          lt-by u (its-own false 1 (pos 63)) (k .1),
         )
       where
-        go : (f : Format) (s : Bool) → u .0 .d < hid f * u .0 .w
-            → Le true (2 ^ 63) 1 s (u .0 .d) (u .0 .w) × (Le false (2 ^ 63) 1 s (u .0 .d) (u .0 .w) → ⊥)
+        go : (f : Format) (s : Bool) → u .d < hid f * u .w
+            → Le true (2 ^ 63) 1 s (u .d) (u .w) × (Le false (2 ^ 63) 1 s (u .d) (u .w) → ⊥)
         go binary32 false h = (omega arith, λ k. omega arith)
         go binary32 true h = (omega arith, λ k. omega arith)
         go binary64 false h = (omega arith, λ k. omega arith)
@@ -232,67 +241,62 @@ module _ (f : Format) (x size : Float) (fit : fits f x ≡ true) (is : size ≡ 
 
     -- n is x without its fraction, and y the float that it makes
     module _ (n : ℤ) (cut : n ≡ toSigned 63 x) where
-      n-is : n ≡ signed (u .0 .s) q
-      n-is = cut ∙ toward-zero x (u .0) (q-under .1)
+      n-is : n ≡ signed (u .s) q
+      n-is = cut ∙ toward-zero x u (q-under .1)
 
       pub cut-casts : T (inFloat f n)
-      cut-casts = rw n-is (may-be-float f (u .0 .s) q (le-of-lt (q-under .0)))
+      cut-casts = rw n-is (may-be-float f (u .s) q (le-of-lt (q-under .0)))
 
       module _ (large : lt size (ofBits f (one f)) ≡ false) where
-        y-is : HasValue (ofInt f n) (u .0 .s) q 1
+        y-is : HasValue (ofInt f n) (u .s) q 1
         y-is =
-            let o = from x (u .0) (ofBits f (one f)) 1 (one-is f) (test (one f) false large) in
-            rw n-is (as-float f (u .0 .s) q (le-div-iff-mul-le (u .0 .W) .1 o) (le-of-lt (q-under .0)))
+            let o = from x u (ofBits f (one f)) 1 (one-is f) (test (one f) false large) in
+            rw n-is (as-float f (u .s) q (le-div-iff-mul-le (u .W) .1 o) (le-of-lt (q-under .0)))
 
-        abbrev y : Fraction (ofInt f n)
-        y = whole (ofInt f n) (u .0 .s) q y-is
+        abbrev y : Ratio (ofInt f n)
+        y = whole (ofInt f n) (u .s) q y-is
 
         -- y lies above x only below zero, and where something was cut off
-        above : (Le (u .0 .s) q 1 (u .0 .s) (u .0 .d) (u .0 .w) → ⊥) → (u .0 .s ≡ true) × (0 < u .0 .d % u .0 .w)
-        above = go (u .0 .s)
+        above : (Le (u .s) q 1 (u .s) (u .d) (u .w) → ⊥) → (u .s ≡ true) × (0 < u .d % u .w)
+        above = go (u .s)
           where
-            go : (s : Bool) → (Le s q 1 s (u .0 .d) (u .0 .w) → ⊥) → (s ≡ true) × (0 < u .0 .d % u .0 .w)
-            go false k = absurd (k (omega (arith, div-add-mod' (u .0 .d) (u .0 .w))))
-            go true k = (refl, lt-of-not-le (λ (z : u .0 .d % u .0 .w ≤ 0). k (omega (arith, div-add-mod' (u .0 .d) (u .0 .w)))))
+            go : (s : Bool) → (Le s q 1 s (u .d) (u .w) → ⊥) → (s ≡ true) × (0 < u .d % u .w)
+            go false k = absurd (k (omega (arith, div-add-mod' (u .d) (u .w))))
+            go true k = (refl, lt-of-not-le (λ (z : u .d % u .w ≤ 0). k (omega (arith, div-add-mod' (u .d) (u .w)))))
 
         pub one-less : lt x (ofInt f n) ≡ true → sub f (ofInt f n) (ofBits f (one f)) ≡ floorS f x
         one-less h =
-            let z = above (lt-means (u .0) y h) in
-            fall f (u .0) (z .1) (q-under .0) (sub f (ofInt f n) (ofBits f (one f))) (sub-fits f (ofInt f n) (ofBits f (one f)))
+            let z = above (lt-means u y h) in
+            ratio-falls f u (z .1) (q-under .0) (sub f (ofInt f n) (ofBits f (one f))) (sub-fits f (ofInt f n) (ofBits f (one f)))
             (rw (z .0) (next-down f (ofInt f n) q (rw (z .0) at y-is) (q-under .0)))
 
         pub cut-off : lt x (ofInt f n) ≡ false → ofInt f n ≡ floorS f x
         cut-off h =
-            elim (eq-zero-or-pos (u .0 .d % u .0 .w)) [
+            elim (eq-zero-or-pos (u .d % u .w)) [
               | inl z ↦ all z
-              | inr r ↦ fall f (u .0) r (q-under .0) (ofInt f n) (ofInt-fits f n) (go (u .0 .s) y-is r (not-lt-means (u .0) y h))
+              | inr r ↦ ratio-falls f u r (q-under .0) (ofInt f n) (ofInt-fits f n) (go (u .s) y-is r (not-lt-means u y h))
             ]
           where
             -- nothing was cut off
-            all : u .0 .d % u .0 .w ≡ 0 → ofInt f n ≡ floorS f x
+            all : u .d % u .w ≡ 0 → ofInt f n ≡ floorS f x
             all z =
-                let e : u .0 .d ≡ q * u .0 .w = omega (arith, div-add-mod' (u .0 .d) (u .0 .w)) in
-                let i : u .0 .w ≡ 1 * u .0 .w = omega arith in
-                whole-unique f (ofInt f n) x (u .0 .s) q (ofInt-fits f n) F y-is
-                (value-shorter x (u .0 .s) q 1 (u .0 .w) (u .0 .W)
-                (subst (λ (k : ℕ). HasValue x (u .0 .s) (q * u .0 .w) k) i (subst (λ (k : ℕ). HasValue x (u .0 .s) k (u .0 .w)) e (u .0 .v))))
-                ∙ stay f (u .0) z
+                whole-unique f (ofInt f n) x (u .s) q (ofInt-fits f n) F y-is (whole-value x (u .s) (u .d) (u .w) (u .W) (u .v) z) ∙ ratio-stays f u z
 
-            go : (s : Bool) → HasValue (ofInt f n) s q 1 → 0 < u .0 .d % u .0 .w → Le s q 1 s (u .0 .d) (u .0 .w) → HasValue (ofInt f n) s (sizeBelow s q) 1
-            go true v r k = absurd (lt-irrefl 0 (omega (arith, div-add-mod' (u .0 .d) (u .0 .w))))
+            go : (s : Bool) → HasValue (ofInt f n) s q 1 → 0 < u .d % u .w → Le s q 1 s (u .d) (u .w) → HasValue (ofInt f n) s (sizeBelow s q) 1
+            go true v r k = absurd (lt-irrefl 0 (omega (arith, div-add-mod' (u .d) (u .w))))
             go false v r k = v
 
   -- no fraction possible
-  pub no-fraction : lt size (ofBits f (wholeFrom f)) ≡ false → x ≡ floorS f x
-  no-fraction h = go x F (test (wholeFrom f) false h)
+  pub no-fraction : lt size (ofBits f (allWhole f)) ≡ false → x ≡ floorS f x
+  no-fraction h = go x F (test (allWhole f) false h)
     where
-      go : (x : Float) → T (fits f x) → lt (fabsS x) (ofBits f (wholeFrom f)) ≡ false → x ≡ floorS f x
+      go : (x : Float) → T (fits f x) → lt (fabsS x) (ofBits f (allWhole f)) ≡ false → x ≡ floorS f x
       go nan F h = unfold floorS in refl
       go (inf s) F h = sym (floor-inf f s)
       go (fin s m e) F h =
-          let k = from (fin s m e) (its-own s m e) (ofBits f (wholeFrom f)) (hid f) (whole-from-is f) h in
+          let k = from (fin s m e) (its-own s m e) (ofBits f (allWhole f)) (hid f) (all-whole-is f) h in
           elim (eq-zero-or-pos (m * up e % down e)) [
-            | inl z ↦ stay f (its-own s m e) z
+            | inl z ↦ ratio-stays f (its-own s m e) z
             | inr r ↦
                 absurd (not-le-of-lt (part-small f s m e F (λ z. lt-irrefl 0 (subst (λ (n : ℕ). 0 < n) z r))) (le-div-iff-mul-le (down-pos e) .1 k))
           ]

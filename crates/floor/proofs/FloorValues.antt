@@ -1,5 +1,5 @@
 -- floor by the value of x = ±d / w, over the format:
---   `stays`: a whole x stays; `falls`: any other goes to the y whose size is next (`sizeBelow`);
+--   `stays`: a whole x stays, and has the value of its whole part (`whole-value`); `falls`: any other goes to the y whose size is next (`sizeBelow`);
 --   `floor-part`, `floor-plus`: the value of the floor, of an x that is not whole and of one with no minus sign;
 --   `floor-same`, `floor-differs`, `floor-whole`: the test x == floor(x) holds of the whole numbers and of no others;
 --   `floor-at-most`: the floor is at most x; `floor-inf`: an infinity stays; `floor-number`: the floor of a number is a number.
@@ -7,7 +7,7 @@
 use mathlib.Core.Path.{_≡_, refl, sym, ap, _∙_, subst}
 use mathlib.Core.Logic.{inl, inr}
 use Prim.Native.Nat.{ℕ, zero, suc, _+_, _-_, _*_, _/_, _%_, _^_, _<_, _≤_}
-use native.Mathlib.Nat.{le-of-lt, lt-of-lt-of-le, lt-irrefl, eq-zero-or-pos, zero-lt-suc, zero-mul, add-zero, add-mul, mul-one, suc-mul, mul-pos, mul-right-comm, mul-mod-left, mod-one, mod-lt, div-add-mod', div-lt-iff-lt-mul, pow-succ'}
+use native.Mathlib.Nat.{le-of-lt, lt-of-lt-of-le, lt-irrefl, eq-zero-or-pos, zero-lt-suc, zero-mul, add-mul, mul-one, suc-mul, mul-pos, mul-right-comm, mul-mod-left, mod-one, mod-lt, div-add-mod', div-lt-iff-lt-mul, pow-succ'}
 use native.Mathlib.Omega.{arith}
 use mathlib.Core.Bool.{Bool, true, false, not, cond, true≢false}
 use lib.IntN.{ℤ, pos, negsuc}
@@ -98,25 +98,20 @@ module _ (f : Format) (x : Float) (s : Bool) (d w : ℕ) (W : 0 < w) (v : HasVal
       sym (broken-is
       ∙ whole-unique f (ofInt f (below s (d / w))) y s (sizeBelow s (d / w)) (ofInt-fits f (below s (d / w))) F (below-value f s (d / w) l) u)
 
+-- the value of a whole x, as a whole number
+pub whole-value : (x : Float) (s : Bool) (d w : ℕ) → 0 < w → HasValue x s d w → d % w ≡ 0 → HasValue x s (d / w) 1
+whole-value x s d w W v z =
+    let quotient : d ≡ d / w * w = omega (arith, div-add-mod' d w) in
+    let one-times : w ≡ 1 * w = omega arith in
+    value-shorter x s (d / w) 1 w W (subst (λ (n : ℕ). HasValue x s (d / w * w) n) one-times (subst (λ (n : ℕ). HasValue x s n w) quotient v))
+
 -- the value of the floor of an x with no minus sign
 pub floor-plus : (f : Format) (x : Float) (d w : ℕ) → 0 < w → HasValue x false d w → d / w < 2 ^ prec f → HasValue (floorS f x) false (d / w) 1
 floor-plus f x d w W v l =
     elim (eq-zero-or-pos (d % w)) [
-      | inl z ↦ whole z
+      | inl z ↦ subst (λ (y : Float). HasValue y false (d / w) 1) (stays f x false d w W v z) (whole-value x false d w W v z)
       | inr p ↦ floor-part f x false d w W v (λ z. lt-irrefl 0 (subst (λ (n : ℕ). 0 < n) z p)) l
     ]
-  where
-    quotient : d % w ≡ 0 → d ≡ d / w * w
-    quotient z = sym (div-add-mod' d w) ∙ ap (λ (n : ℕ). d / w * w + n) z ∙ add-zero (d / w * w)
-
-    one-times : w ≡ 1 * w
-    one-times = omega arith
-
-    whole : d % w ≡ 0 → HasValue (floorS f x) false (d / w) 1
-    whole z =
-        subst (λ (y : Float). HasValue y false (d / w) 1) (stays f x false d w W v z)
-        (value-shorter x false (d / w) 1 w W
-        (subst (λ (n : ℕ). HasValue x false (d / w * w) n) one-times (subst (λ (n : ℕ). HasValue x false n w) (quotient z) v)))
 
 -- ---- the test x == floor(x), for x = ±(m * up e) / (down e)
 

@@ -1,5 +1,5 @@
-// floor, floorf: the greatest whole number that is at most x. A float has a fixed number of binary digits, 53 in f64 and 24 in f32; the more of
-// them stand before the point, the fewer are left for a fraction. That makes three cases, by the size of x.
+// floor, floorf: the greatest whole number that is at most x. An f64 has at most 53 binary digits, an f32 24; the more of them stand before the
+// point, the fewer are left for a fraction. That makes three cases, by the size of x.
 ghost use mathlib.Core.Path.{_≡_};
 ghost use lib.Ieee.{binary32, binary64};
 ghost use Rattle.floor.specs.Floor.{floorS};
@@ -8,7 +8,7 @@ use std::num::truncating_f64_to_i64;
 use words::fabs::fabs;
 use words::fabs::fabsf;
 
-// From this size on all digits stand before the point, and every number is whole: 2^52, in f32 2^23.
+// From this size on all digits stand before the point, and every number is whole: 2^52 has 53 binary digits, and in f32 2^23 has 24.
 const WHOLE_FROM: f64 = 4503599627370496.0;
 
 const WHOLE_FROM_F32: f32 = 8388608.0;
@@ -28,15 +28,16 @@ pub fn floor(x: f64) -> f64
         } else if x > 0.0 {
             0.0 // however close to one x is
         } else {
-            x // a zero is whole, and keeps its sign
+            x // +0 or -0: either is whole, and stays
         }
     } else if size < WHOLE_FROM {
-        // A fraction still present, or room for one. Cutting it off moves x toward zero; an x without one does not move. A positive x moves down, to the
+        // A fraction still present, or room for one. Without it x is a whole number, an i64; and every whole number of this size is a float, so
+        // nothing is rounded. Cutting the fraction off moves x toward zero, or not at all where there is none. A positive x moves down, to the
         // whole number below it. A negative x moves up, and the whole number below it is one less.
-        let cut = truncating_f64_to_i64(x) as f64;
-        if cut > x { cut - 1.0 } else { cut } // above x where it has moved up
+        let cut = truncating_f64_to_i64(x) as f64; // x without its fraction
+        if cut > x { cut - 1.0 } else { cut } // cut > x only where x has moved up
     } else {
-        // No fraction possible: x is whole, and stays. So do an infinity and a NaN, for which neither test holds.
+        // No fraction possible: x is whole, and stays. So do an infinity and a NaN (no number), for which neither test holds.
         x
     }
 }
@@ -51,14 +52,14 @@ pub fn floorf(x: f32) -> f32
         if x < 0.0 {
             NEG_ONE_F32
         } else if x > 0.0 {
-            0.0
+            0.0 // close to one too
         } else {
-            x
+            x // a zero of either sign
         }
     } else if size < WHOLE_FROM_F32 {
         // A fraction still present, or room for one.
         let cut = truncating_f32_to_i64(x) as f32;
-        if cut > x { cut - 1.0 } else { cut }
+        if cut > x { cut - 1.0 } else { cut } // one less where x has moved up
     } else {
         // No fraction possible.
         x

@@ -3,7 +3,7 @@
 use mathlib.Core.Path.{_≡_, refl, sym, ap, _∙_, subst}
 use mathlib.Core.Logic.{inl, inr}
 use Prim.Native.Nat.{ℕ, zero, suc, _+_, _-_, _*_, _/_, _%_, _^_, _<_, _≤_}
-use native.Mathlib.Nat.{add-zero, suc-mul, pow-succ', mul-assoc, eq-or-lt-of-le, mod-eq-of-lt, add-mod-left, div-lt-iff-lt-mul, mul-right-comm, le-trans, mod-le, add-mul, div-add-mod', div-mul-le-self, mul-add-div-right, mul-add-mod-self-right}
+use native.Mathlib.Nat.{add-zero, suc-mul, pow-succ', mul-assoc, eq-or-lt-of-le, zero-add, le-add-right, mod-eq-of-lt, add-mod-left, div-lt-iff-lt-mul, mul-right-comm, le-trans, mod-le, add-mul, div-add-mod', div-mul-le-self, mul-add-div-right, mul-add-mod-self-right}
 use native.Mathlib.Omega.{arith}
 use mathlib.Core.Bool.{Bool, true, false, not, cond}
 use lib.IntN.{ℤ}
@@ -16,7 +16,7 @@ use lib.Ieee.Compare.{differs-from-itself}
 use lib.Ieee.Exact.{HasValue}
 use lib.Ieee.Fits.{down-pos}
 use lib.Ieee.Nearest.{div-same}
-use borrow.Author.Tests.{lt-ltb, le-ltb, ltb-false}
+use borrow.Author.Tests.{lt-ltb, le-ltb, le-leb, lt-leb, ltb-false}
 use Rattle.rounding.proofs.BitOrder.{fields-val, toBits-under, toBits-neg, scaled, bitVal, hid-pos, endless, under-top, bits-open}
 use Rattle.rounding.proofs.Cut.{cut, cut-is}
 use Rattle.words.specs.Bits.{withLowWordS, withHighWordS}
@@ -137,6 +137,25 @@ pattern-value f b h =
     subst (λ (z : Float). HasValue z (leb (top f) b) (bitVal f (b % top f)) (2 ^ low f))
     (sym (bits-open f b ∙ ap (ofFields f (leb (top f) b) (b % top f / hid f)) (sym (digits-rest f b))))
     (fields-val f (leb (top f) b) (b % top f / hid f) (b % top f % hid f) (div-lt-iff-lt-mul (hid-pos f) .1 h))
+
+-- the same of a pattern that is put together: the sign's weight, and n
+abbrev pub weight : Format → Bool → ℕ
+weight f s = cond s (top f) 0
+
+pub signed-value : (f : Format) (s : Bool) (n : ℕ) → n < endless f → HasValue (ofBits f (weight f s + n)) s (bitVal f n) (2 ^ low f)
+signed-value f s n h =
+    let t : n < top f = under-top f n h in
+    subst (λ (b : Bool). HasValue (ofBits f (weight f s + n)) b (bitVal f n) (2 ^ low f)) (sign s t)
+    (subst (λ (r : ℕ). HasValue (ofBits f (weight f s + n)) (leb (top f) (weight f s + n)) (bitVal f r) (2 ^ low f)) (rest s t)
+    (pattern-value f (weight f s + n) (subst (λ (r : ℕ). r < endless f) (sym (rest s t)) h)))
+  where
+    rest : (s : Bool) → n < top f → (weight f s + n) % top f ≡ n
+    rest true t = add-mod-left (top f) n ∙ mod-eq-of-lt t
+    rest false t = ap (λ (z : ℕ). z % top f) (zero-add n) ∙ mod-eq-of-lt t
+
+    sign : (s : Bool) → n < top f → leb (top f) (weight f s + n) ≡ s
+    sign true t = le-leb (top f) (top f + n) (le-add-right (top f) n)
+    sign false t = ap (leb (top f)) (zero-add n) ∙ lt-leb (top f) n t
 
 -- ---- the exponent's field
 abbrev pub fieldOf : Format → ℕ → ℕ
