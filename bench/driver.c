@@ -201,8 +201,8 @@ static void functions_pass(const struct function *f, int library) {
         for (int i = 0; i < COUNT; i++) to[i] = narrow((uint32_t)arguments[i]);
 }
 
-/* Those that answer the same records: the port's batch, the Rust and the earlier port's batch; or, in pieces of so many bytes, its feed
- * and its batch. */
+/* Those that answer the same records: the port's batch, the Rust and the earlier port's batch; or, in pieces of so many bytes, the
+ * port's feed and its batch. */
 struct pair {
     const char *name;
     int of_erf;
@@ -411,7 +411,7 @@ static int passes(const char *what, const char *library, long count) {
     int side = 0, sides_of = p ? side_count(p) : SIDES;
     while (side < sides_of && strcmp(library, library_of[side]) != 0) side++;
     if (side == sides_of) {
-        fprintf(stderr, "driver: %s is not timed of %s\n", what, library);
+        fprintf(stderr, "driver: %s has no library %s here\n", what, library);
         return 2;
     }
     state = 1;

@@ -9,9 +9,8 @@ use lib.Bits.{bitAnd, and-mask, and-high}
 use lib.Dec.{T, eqb, leb→le, nleb→lt, ltb→lt, nltb→le, eqb→eq}
 use lib.Pow as Pow
 use lib.Pow.{pow-pos}
-use lib.Ieee.{Float, Format, binary32, binary64, prec, emax, hid, top, ofBits}
+use lib.Ieee.{Format, binary32, binary64, prec, emax, hid, top, ofBits}
 use lib.Ieee.Bits.{ofBits-fits}
-use lib.Ieee.Exact.{HasValue}
 use borrow.Author.Tests.{le-leb, lt-leb, eq-eqb}
 use Rattle.words.specs.Pick.{if_then_else_}
 use Rattle.words.specs.Tests.{_<?_, _≥?_, _=?_, _≠?_}

@@ -125,7 +125,7 @@ add-one-block b K h n =
     less : (r K : ℕ) → r < K → r - 1 < K
     less r K h = omega arith
 
--- what the tests of the code say of such a pattern: its field is x + 1, and the digits are j before the point and k behind it
+-- what the Rust's tests say of such a pattern: its field is x + 1, and the digits are j before the point and k behind it
 pub record Split (f : Format) (b k : ℕ) : Type 0 where
   pub x : ℕ
   pub j : ℕ

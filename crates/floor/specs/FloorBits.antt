@@ -1,5 +1,6 @@
 -- floor as the Rust has it, generic/floor.rs: on the bit pattern ix, over the format, in its order. Nothing is promised by it: floor is defined by
 -- the value (Floor), the code goes by the value too, and proofs/FloorBits says that this comes to the same. `bitAnd` is the Rust's `&`.
+-- The status is left out; a NaN keeps its pattern, and is the one NaN in the law.
 use Prim.Native.Nat.{ℕ, suc, _+_, _-_, _*_, _/_, _%_, _^_}
 use lib.Bits.{bitAnd}
 use lib.Ieee.{Format, prec, emax, hid, ones, top}
@@ -21,7 +22,7 @@ fromOne f ix m =
 abbrev pub belowOne : Format → ℕ → ℕ
 belowOne f ix =
     if ix <? top f then 0
-    else if ix % top f ≠? 0 then top f + emax f * hid f  -- NEG_ONE
+    else if ix % top f ≠? 0 then top f + emax f * hid f  -- ix << 1 != 0: NEG_ONE
     else ix
 
 -- e is the exponent's field, which is the Rust's e plus emax

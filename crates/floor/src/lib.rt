@@ -31,9 +31,9 @@ pub fn floor(x: f64) -> f64
             x // +0 or -0: either is whole, and stays
         }
     } else if size < WHOLE_FROM {
-        // A fraction still present, or room for one. Without it x is a whole number, an i64; and every whole number of this size is a float, so
-        // nothing is rounded. Cutting the fraction off moves x toward zero, or not at all where there is none. A positive x moves down, to the
-        // whole number below it. A negative x moves up, and the whole number below it is one less.
+        // A fraction still present, or room for one. Cut off, it leaves a whole number below 2^52 in size: an i64 holds it, and a float does, so that
+        // nothing is rounded. The cut moves x toward zero, or not at all where there is no fraction. A positive x moves down, to the whole number
+        // below it. A negative x moves up, and the whole number below it is one less than the cut.
         let cut = truncating_f64_to_i64(x) as f64; // x without its fraction
         if cut > x { cut - 1.0 } else { cut } // cut > x only where x has moved up
     } else {
@@ -52,7 +52,7 @@ pub fn floorf(x: f32) -> f32
         if x < 0.0 {
             NEG_ONE_F32
         } else if x > 0.0 {
-            0.0 // close to one too
+            0.0 // also just below one
         } else {
             x // a zero of either sign
         }
