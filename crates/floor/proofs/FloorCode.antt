@@ -17,14 +17,16 @@ use lib.Ieee.Casts.{toSigned-in}
 use lib.Ieee.Exact.{HasValue}
 use lib.Ieee.Fits.{down-pos, sub-fits, ofInt-fits}
 use lib.Ieee.Nearest.{div-same}
+use lib.Ieee.Scale.{finite}
 use mir.Syntax.{w64}
 use mir.Val.{toZ, ofZ}
 use mir.ValLaws.{toZ-ofZ}
 use Rattle.rounding.proofs.Signed.{Le, le-of-signed, signed-of-le, value-finite, value-neg}
-use Rattle.rounding.proofs.Order.{le-of-not-lt, not-lt-of-le}
+use Rattle.rounding.proofs.Order.{le-trans, le-of-not-lt, not-lt-of-le}
 use Rattle.rounding.proofs.Fraction.{sub-is}
 use Rattle.rounding.proofs.Units.{add-units}
 use Rattle.words.specs.Fabs.{fabsS}
+use Rattle.words.proofs.PatternLaws.{fabs-fin}
 use Rattle.floor.specs.Floor.{floorS}
 use Rattle.floor.proofs.FloorValues.{sizeBelow, stays, falls, whole-value, floor-inf, part-small}
 use Rattle.floor.proofs.FloorLaws.{wholeFrom}
@@ -286,15 +288,20 @@ module _ (f : Format) (x size : Float) (fit : fits f x ≡ true) (is : size ≡ 
             go true v r k = absurd (lt-irrefl 0 (omega (arith, div-add-mod' (u .d) (u .w))))
             go false v r k = v
 
-  -- no fraction possible
-  pub no-fraction : lt size (ofBits f (allWhole f)) ≡ false → x ≡ floorS f x
-  no-fraction h = go x F (test (allWhole f) false h)
+  -- no fraction possible: from any bound on that is at least 2 ^ (prec - 1)
+  pub no-fraction : (c : Float) → T (finite c) → T (le (ofBits f (allWhole f)) c) → lt size c ≡ false → x ≡ floorS f x
+  no-fraction c C b h = go x F (ap (λ (z : Float). lt z c) (sym is) ∙ h)
     where
-      go : (x : Float) → T (fits f x) → lt (fabsS x) (ofBits f (allWhole f)) ≡ false → x ≡ floorS f x
+      go : (x : Float) → T (fits f x) → lt (fabsS x) c ≡ false → x ≡ floorS f x
       go nan F h = unfold floorS in refl
       go (inf s) F h = sym (floor-inf f s)
       go (fin s m e) F h =
-          let k = from (fin s m e) (its-own s m e) (ofBits f (allWhole f)) (hid f) (all-whole-is f) h in
+          let far = ofBits f (allWhole f) in
+          let own = fin false m e in
+          let above = le-of-not-lt own c tt C (subst (λ (q : Bool). T (not q)) (sym h ∙ ap (λ (z : Float). lt z c) (fabs-fin s m e)) tt) in
+          let k =
+          from (fin s m e) (its-own s m e) far (hid f) (all-whole-is f)
+          (ap (λ (z : Float). lt z far) (fabs-fin s m e) ∙ not-lt-of-le own far (le-trans far c own b above)) in
           elim (eq-zero-or-pos (m * up e % down e)) [
             | inl z ↦ ratio-stays f (its-own s m e) z
             | inr r ↦

@@ -1,5 +1,5 @@
--- floor as the Rust has it, generic/floor.rs: on the bit pattern ix, over the format, in its order. Nothing is promised by it: floor is defined by
--- the value (Floor), the code goes by the value too, and proofs/FloorBits says that this comes to the same. `bitAnd` is the Rust's `&`.
+-- floor as the Rust has it, generic/floor.rs: on the bit pattern ix, over the format, in its order. No contract cites it: floor is defined by the
+-- value (Floor), the code goes by the value too, and proofs/FloorBits says that this comes to the same. `bitAnd` is the Rust's `&`.
 -- The status is left out; a NaN keeps its pattern, and is the one NaN in the law.
 use Prim.Native.Nat.{ℕ, suc, _+_, _-_, _*_, _/_, _%_, _^_}
 use lib.Bits.{bitAnd}

@@ -1,5 +1,5 @@
 -- `floor::floor` meets its contract, return by return. Assumes nothing.
-use lib.Ieee.{binary64}
+use lib.Ieee.{binary64, ofBits, le}
 use borrow.Author.Needs.{needs}
 use Rattle.floor.proofs.FloorCode as code
 use Rattle.floor.proofs.floor.Statement.{statement}
@@ -26,8 +26,9 @@ returns-3 c =
 
 -- ---- no fraction possible
 returns-6 : tie.Need-returns-6
+unfolding ofBits le
 returns-6 c =
-    let s = c .before .before in code.no-fraction binary64 _ _ (s .before .good .0 .1) (s .fabs .ensures) (c .if4 .left)
+    let s = c .before .before in code.no-fraction binary64 _ _ (s .before .good .0 .1) (s .fabs .ensures) _ tt tt (c .if4 .left)
 
 -- ---- a fraction still present, or room for one
 truncating-f64-to-i64-requires : tie.Need-truncating-f64-to-i64-requires
