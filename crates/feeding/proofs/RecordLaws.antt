@@ -16,10 +16,9 @@ use Rattle.records.specs.Tally.{nothing}
 use Rattle.records.specs.declared.Tally.{Tally}
 use Rattle.records.specs.Codes.{DONE, UNKNOWN, CUT, FULL}
 use Rattle.records.specs.Run.{Out, stop, took, ahead, choose, one, run}
-use Rattle.records.proofs.RunLaws.{choose-elim, sound, run-stop, run-go, run-within}
-use Rattle.records.proofs.TallyLaws.{⊞-nothing}
+use Rattle.records.proofs.RunLaws.{choose-elim, sound, by-refused, by-took, run-stop, run-go, run-within}
 use Rattle.records.proofs.StepLaws.{choose-unknown, choose-cut, choose-full, choose-whole}
-use Rattle.records.proofs.SplitLaws.{zero-or, run-ends}
+use Rattle.records.proofs.SplitLaws.{ahead-stop, zero-or, run-ends}
 use Rattle.digits.proofs.DigitLaws.{word-append}
 use Rattle.feeding.specs.Feed.{State, Open, Stopped, begun, Call, ends, goes, turn, takes}
 use Rattle.feeding.proofs.TakeLaws.{goes-none, goes-goes, le-or}
@@ -89,17 +88,15 @@ module _ (T : List Row) (k : ℕ) (h : List ℕ) (b : ℕ) (room : ℕ) (full : 
 
 run-none : (T : List Row) (room : ℕ) → run T [] room ≡ stop DONE
 unfolding one
-run-none T room = run-stop T [] room refl
+run-none T room = by-refused (one T) (sound T) [] room DONE refl
 
 run-single : (T : List Row) (s x : List ℕ) (w room : ℕ) → length s ≡ 1 + w → one T s room ≡ took w x → run T s room ≡ took w x
 run-single T s x w room l e =
-    let z : one T s room .tally .records ≡ 1 = ap (λ (o : Out). o .tally .records) e in
     let d : drop (1 + w) s ≡ [] = ap (λ (n : ℕ). drop n s) (sym l) ∙ drop-length s in
-    run-go T s room (λ y. let a : _≡_ {A = ℕ} 0 1 = sym y ∙ z in omega arith)
-    ∙ ap (λ (o : Out). ahead o (run T (drop (o .tally .read) s) (room - o .tally .written))) e
+    by-took (one T) (sound T) s room w x e
     ∙ ap (λ (t : List ℕ). ahead (took w x) (run T t (room - length x))) d
     ∙ ap (ahead (took w x)) (run-none T (room - length x))
-    ∙ (λ i. record { code = DONE; tally = ⊞-nothing (took w x .tally) i; bytes = append-nil x i })
+    ∙ ahead-stop (took w x) DONE
 
 -- ---- the rest of a record that has begun
 
@@ -177,7 +174,7 @@ module _ (T : List Row) (k : ℕ) (g p : List ℕ) (n room : ℕ) (some : n ≡ 
   run-no-room : room < length answer → run T whole room ≡ stop FULL
   run-no-room f =
       let o = ap (λ (y : List ℕ). one T y room) whole-is ∙ last-full T k front last room size (omega (arith, ap length answer-is)) in
-      run-stop T whole room (ap (λ (y : Out). y .tally .records) o) ∙ o
+      by-refused (one T) (sound T) whole room FULL o
 
   run-answered : length answer ≤ room → run T whole room ≡ took w answer
   run-answered f =

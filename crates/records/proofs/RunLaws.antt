@@ -1,9 +1,9 @@
--- Laws of `run`, over any table: its one equation, that it stays within the requests and the room, and that it counts the bytes that it
--- writes. Assumes nothing.
+-- Laws of a run by any lawful step, and of `run` over any table: its one equation, that it stays within what it reads and the room, and that it
+-- counts the bytes that it writes. Assumes nothing.
 use mathlib.Core.Path.{_≡_, refl, sym, ap, _∙_}
 use mathlib.Core.List.{List, [], _∷_}
 use mathlib.Core.Bool.{Bool, true, false}
-use Prim.Native.Nat.{ℕ, zero, suc, _-_, _≤_, _<_}
+use Prim.Native.Nat.{ℕ, zero, suc, _+_, _-_, _≤_, _<_}
 use native.Mathlib.Omega.{arith}
 use borrow.Author.Tests.{ltb-true, ltb-false, eqb-true, eqb-false}
 use lib.Dec.{eqb, ltb}
@@ -14,7 +14,7 @@ use Rattle.records.specs.Reply.{bytesOf}
 use Rattle.records.specs.Row.{Row, rowIn}
 use Rattle.records.specs.Codes.{DONE, UNKNOWN, CUT, FULL}
 use Rattle.records.specs.Tally.{nothing}
-use Rattle.records.specs.Run.{Out, stop, ahead, took, choose, one, next, steps, run}
+use Rattle.records.specs.Run.{Out, stop, ahead, took, choose, one, next, stepsBy, runBy, run}
 use Rattle.records.specs.declared.Tally.{Tally}
 
 -- what is so of both sides of a test, under its outcome, is so of its choice
@@ -41,10 +41,10 @@ pub record Sound (s : List ℕ) (room : ℕ) (o : Out) : Type 0 where
   pub fits : o .tally .written ≤ room
   pub counts : o .tally .written ≡ length (o .bytes)
 
-stop-sound : (s : List ℕ) (room c : ℕ) → Sound s room (stop c)
+pub stop-sound : (s : List ℕ) (room c : ℕ) → Sound s room (stop c)
 stop-sound s room c = record { stops = λ h. (refl, refl); goes = λ h. absurd (h refl); fits = omega arith; counts = refl }
 
-took-sound : (k : ℕ) (s : List ℕ) (room w : ℕ) (x : List ℕ) → w ≤ length s → length x ≤ room → Sound (k ∷ s) room (took w x)
+pub took-sound : (k : ℕ) (s : List ℕ) (room w : ℕ) (x : List ℕ) → w ≤ length s → length x ≤ room → Sound (k ∷ s) room (took w x)
 took-sound k s room w x h l = record {
   stops = λ e. absurd (let z : _≡_ {A = ℕ} 1 0 = e in omega arith);
   goes = λ _. (refl, (omega arith, omega arith));
@@ -52,54 +52,28 @@ took-sound k s room w x h l = record {
   counts = refl;
 }
 
-pub sound : (T : List Row) (s : List ℕ) (room : ℕ) → Sound s room (one T s room)
-unfolding one
-sound T [] room = stop-sound [] room DONE
-sound T (k ∷ s) room =
-    let r = rowIn T k in
-    let x = bytesOf (r .reply (word (r .width) s)) in
-    choose-elim (Sound (k ∷ s) room) (r .width) (length s) room x
+-- a step all of whose outcomes are so
+abbrev pub Lawful : (List ℕ → ℕ → Out) → Type 0
+Lawful S = (s : List ℕ) (room : ℕ) → Sound s room (S s room)
+
+-- what the tests choose is so, of a body that stands behind a byte
+pub choose-sound : (k : ℕ) (s : List ℕ) (room w : ℕ) (x : List ℕ) → Sound (k ∷ s) room (choose w (length s) room x)
+choose-sound k s room w x =
+    choose-elim (Sound (k ∷ s) room) w (length s) room x
     (λ _. stop-sound (k ∷ s) room UNKNOWN)
     (λ _ _. stop-sound (k ∷ s) room CUT)
     (λ _ _ _. stop-sound (k ∷ s) room FULL)
-    (λ _ l f. took-sound k s room (r .width) x l f)
+    (λ _ l f. took-sound k s room w x l f)
+
+pub sound : (T : List Row) → Lawful (one T)
+unfolding one
+sound T [] room = stop-sound [] room DONE
+sound T (k ∷ s) room = let r = rowIn T k in choose-sound k s room (r .width) (bytesOf (r .reply (word (r .width) s)))
 
 -- what the rest is does not matter where there is none
 next-same : (r : ℕ) (o a b : Out) → ((r ≡ 0 → ⊥) → a ≡ b) → next r o a ≡ next r o b
 next-same zero o a b h = refl
 next-same (suc r) o a b h = ap (ahead o) (h (λ e. omega arith))
-
--- more fuel changes nothing
-enough : (T : List Row) (n m : ℕ) (s : List ℕ) (room : ℕ) → length s < n → length s < m → steps T n s room ≡ steps T m s room
-unfolding steps
-enough T zero m s room h l = absurd (omega arith)
-enough T (suc n) zero s room h l = absurd (omega arith)
-enough T (suc n) (suc m) s room h l =
-    next-same _ _ _ _ (λ g.
-    let t = one T s room .tally in
-    let q = sound T s room .goes g in
-    let d = length-drop (t .read) s in
-    enough T n m (drop (t .read) s) (room - t .written) (omega arith) (omega arith))
-
--- the rest behind a record that was taken
-abbrev pub onward : List Row → List ℕ → ℕ → Tally → Out
-onward T s room t = run T (drop (t .read) s) (room - t .written)
-
--- the one equation of `run`
-pub run-law : (T : List Row) (s : List ℕ) (room : ℕ) → run T s room ≡ next (one T s room .tally .records) (one T s room) (onward T s room (one T s room .tally))
-unfolding run steps
-run-law T s room =
-    next-same _ _ _ _ (λ g.
-    let t = one T s room .tally in
-    let q = sound T s room .goes g in
-    let d = length-drop (t .read) s in
-    enough T (length s) (suc (length (drop (t .read) s))) (drop (t .read) s) (room - t .written) (omega arith) (omega arith))
-
-pub run-stop : (T : List Row) (s : List ℕ) (room : ℕ) → one T s room .tally .records ≡ 0 → run T s room ≡ one T s room
-run-stop T s room e = run-law T s room ∙ ap (λ (r : ℕ). next r (one T s room) (onward T s room (one T s room .tally))) e
-
-pub run-go : (T : List Row) (s : List ℕ) (room : ℕ) → (one T s room .tally .records ≡ 0 → ⊥) → run T s room ≡ ahead (one T s room) (onward T s room (one T s room .tally))
-run-go T s room h = run-law T s room ∙ ap (λ (r : ℕ). next r (one T s room) (onward T s room (one T s room .tally))) (sound T s room .goes h .0)
 
 next-elim : (P : Out → Type 0) (k : ℕ) (o rest : Out) → (k ≡ 0 → P o) → ((k ≡ 0 → ⊥) → P (ahead o rest)) → P (next k o rest)
 next-elim P zero o rest f g = f refl
@@ -111,22 +85,78 @@ pub record Within (s : List ℕ) (room : ℕ) (o : Out) : Type 0 where
   pub fits : o .tally .written ≤ room
   pub counts : o .tally .written ≡ length (o .bytes)
 
-steps-within : (T : List Row) (n : ℕ) (s : List ℕ) (room : ℕ) → Within s room (steps T n s room)
-unfolding steps
-steps-within T zero s room = record { read = omega arith; fits = omega arith; counts = refl }
-steps-within T (suc n) s room =
-    let o = one T s room in
-    let q = sound T s room in
-    let rest = steps T n (drop (o .tally .read) s) (room - o .tally .written) in
-    let r = steps-within T n (drop (o .tally .read) s) (room - o .tally .written) in
-    next-elim (Within s room) (o .tally .records) o rest
-    (λ z. let e = ap (λ (t : Tally). t .read) (q .stops z .0) in record { read = omega arith; fits = q .fits; counts = q .counts })
-    (λ z.
-    let g = q .goes z in
-    let d = length-drop (o .tally .read) s in
-    let l = length-append (o .bytes) (rest .bytes) in
-    record { read = omega (arith, r .read); fits = omega (arith, q .fits, r .fits); counts = omega (arith, q .counts, r .counts) })
+-- the rest behind an item that was taken
+abbrev pub onwardBy : (List ℕ → ℕ → Out) → List ℕ → ℕ → Tally → Out
+onwardBy S s room t = runBy S (drop (t .read) s) (room - t .written)
+
+abbrev pub onward : List Row → List ℕ → ℕ → Tally → Out
+onward T = onwardBy (one T)
+
+-- ---- by any lawful step
+module _ (S : List ℕ → ℕ → Out) (q : Lawful S) where
+  -- more fuel changes nothing
+  enough : (n m : ℕ) (s : List ℕ) (room : ℕ) → length s < n → length s < m → stepsBy S n s room ≡ stepsBy S m s room
+  unfolding stepsBy
+  enough zero m s room h l = absurd (omega arith)
+  enough (suc n) zero s room h l = absurd (omega arith)
+  enough (suc n) (suc m) s room h l =
+      next-same _ _ _ _ (λ g.
+      let t = S s room .tally in
+      let w = q s room .goes g in
+      let d = length-drop (t .read) s in
+      enough n m (drop (t .read) s) (room - t .written) (omega arith) (omega arith))
+
+  -- the one equation of a run
+  by-law : (s : List ℕ) (room : ℕ) → runBy S s room ≡ next (S s room .tally .records) (S s room) (onwardBy S s room (S s room .tally))
+  unfolding runBy stepsBy
+  by-law s room =
+      next-same _ _ _ _ (λ g.
+      let t = S s room .tally in
+      let w = q s room .goes g in
+      let d = length-drop (t .read) s in
+      enough (length s) (suc (length (drop (t .read) s))) (drop (t .read) s) (room - t .written) (omega arith) (omega arith))
+
+  pub by-stop : (s : List ℕ) (room : ℕ) → S s room .tally .records ≡ 0 → runBy S s room ≡ S s room
+  by-stop s room e = by-law s room ∙ ap (λ (r : ℕ). next r (S s room) (onwardBy S s room (S s room .tally))) e
+
+  pub by-go : (s : List ℕ) (room : ℕ) → (S s room .tally .records ≡ 0 → ⊥) → runBy S s room ≡ ahead (S s room) (onwardBy S s room (S s room .tally))
+  by-go s room h = by-law s room ∙ ap (λ (r : ℕ). next r (S s room) (onwardBy S s room (S s room .tally))) (q s room .goes h .0)
+
+  -- where it is known what the step does
+  pub by-refused : (s : List ℕ) (room c : ℕ) → S s room ≡ stop c → runBy S s room ≡ stop c
+  by-refused s room c e = by-stop s room (ap (λ (o : Out). o .tally .records) e) ∙ e
+
+  pub by-took : (s : List ℕ) (room w : ℕ) (x : List ℕ) → S s room ≡ took w x → runBy S s room ≡ ahead (took w x) (runBy S (drop (1 + w) s) (room - length x))
+  by-took s room w x e =
+      by-go s room (λ y. let z : _≡_ {A = ℕ} 0 1 = sym y ∙ ap (λ (o : Out). o .tally .records) e in omega arith)
+      ∙ ap (λ (o : Out). ahead o (onwardBy S s room (o .tally))) e
+
+  steps-within : (n : ℕ) (s : List ℕ) (room : ℕ) → Within s room (stepsBy S n s room)
+  unfolding stepsBy
+  steps-within zero s room = record { read = omega arith; fits = omega arith; counts = refl }
+  steps-within (suc n) s room =
+      let o = S s room in
+      let l = q s room in
+      let rest = stepsBy S n (drop (o .tally .read) s) (room - o .tally .written) in
+      let r = steps-within n (drop (o .tally .read) s) (room - o .tally .written) in
+      next-elim (Within s room) (o .tally .records) o rest
+      (λ z. let e = ap (λ (t : Tally). t .read) (l .stops z .0) in record { read = omega arith; fits = l .fits; counts = l .counts })
+      (λ z.
+      let g = l .goes z in
+      let d = length-drop (o .tally .read) s in
+      let a = length-append (o .bytes) (rest .bytes) in
+      record { read = omega (arith, r .read); fits = omega (arith, l .fits, r .fits); counts = omega (arith, l .counts, r .counts) })
+
+  pub by-within : (s : List ℕ) (room : ℕ) → Within s room (runBy S s room)
+  unfolding runBy
+  by-within s room = steps-within (suc (length s)) s room
+
+-- ---- by a table
+pub run-stop : (T : List Row) (s : List ℕ) (room : ℕ) → one T s room .tally .records ≡ 0 → run T s room ≡ one T s room
+run-stop T = by-stop (one T) (sound T)
+
+pub run-go : (T : List Row) (s : List ℕ) (room : ℕ) → (one T s room .tally .records ≡ 0 → ⊥) → run T s room ≡ ahead (one T s room) (onward T s room (one T s room .tally))
+run-go T = by-go (one T) (sound T)
 
 pub run-within : (T : List Row) (s : List ℕ) (room : ℕ) → Within s room (run T s room)
-unfolding run
-run-within T s room = steps-within T (suc (length s)) s room
+run-within T = by-within (one T) (sound T)

@@ -1,7 +1,7 @@
 -- A run over a stream that comes in two pieces: what the first leaves unread goes before the second. Where a run stopped, the next record
 -- is refused with the run's code. Assumes nothing.
 use mathlib.Core.Path.{_≡_, refl, sym, ap, _∙_, subst}
-use mathlib.Core.List.{List, [], _∷_, _++_, append-assoc}
+use mathlib.Core.List.{List, [], _∷_, _++_, append-assoc, append-nil}
 use mathlib.Core.Logic.{_⊎_, inl, inr, ⊎-elim}
 use Prim.Native.Nat.{ℕ, zero, suc, _+_, _-_, _≤_, _<_}
 use native.Mathlib.Omega.{arith}
@@ -14,7 +14,7 @@ use Rattle.records.specs.Row.{Row, rowIn}
 use Rattle.records.specs.Tally.{nothing, _⊞_}
 use Rattle.records.specs.Run.{Out, stop, ahead, choose, one, run}
 use Rattle.records.specs.declared.Tally.{Tally}
-use Rattle.records.proofs.TallyLaws.{⊞-assoc, nothing-⊞}
+use Rattle.records.proofs.TallyLaws.{⊞-assoc, nothing-⊞, ⊞-nothing}
 use Rattle.records.proofs.RunLaws.{sound, run-go, run-stop, onward, choose-elim}
 use Rattle.records.proofs.StepLaws.{choose-whole}
 
@@ -27,6 +27,10 @@ ahead-none a x et eb = λ i. record {
   tally = (ap (λ (t : Tally). t ⊞ x .tally) et ∙ nothing-⊞ (x .tally)) i;
   bytes = ap (λ (l : List ℕ). l ++ x .bytes) eb i;
 }
+
+-- behind anything a refusal leaves its code
+pub ahead-stop : (o : Out) (c : ℕ) → ahead o (stop c) ≡ record { code = c; tally = o .tally; bytes = o .bytes }
+ahead-stop o c = λ i. record { code = c; tally = ⊞-nothing (o .tally) i; bytes = append-nil (o .bytes) i }
 
 -- what a record that was answered passed
 choose-goes : (w l room : ℕ) (x : List ℕ) → (choose w l room x .tally .records ≡ 0 → ⊥) → (w ≡ 0 → ⊥) × ((w ≤ l) × (length x ≤ room))

@@ -71,3 +71,13 @@ did-stop o r c out a er eo = rw (er, eo) (record { code = refl; tally = refl; bu
 pub did-took : (o : Out) (r : Report) (w n out : ℕ) (x a b : List ℕ) → r ≡ record { code = DONE; tally = record { records = 1; read = 1 + w; written = n } } →
     o ≡ took w x → n ≡ length x → b ≡ sets a out x → Did o r out a b
 did-took o r w n out x a b er eo l f = rw (er, eo, l) (record { code = refl; tally = refl; buffer = f })
+
+-- two reports of one thing done are the same
+pub did-same : (o : Out) (r r' : Report) (p : ℕ) (a b b' : List ℕ) → Did o r p a b → Did o r' p a b' → (r ≡ r') × (b ≡ b')
+did-same o r r' p a b b' d d' = (
+  λ i. record {
+    code = (d .code ∙ sym (d' .code)) i;
+    tally = (d .tally ∙ sym (d' .tally)) i;
+  },
+  d .buffer ∙ sym (d' .buffer),
+)

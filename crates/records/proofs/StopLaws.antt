@@ -1,7 +1,7 @@
 -- Where a run stopped, over any table: an unknown kind stops it whatever follows; where the stream is used up or cut, less than a record is
 -- left. Assumes nothing.
-use mathlib.Core.Path.{_≡_, refl, sym, ap, _∙_}
-use mathlib.Core.List.{List, [], _∷_, _++_, append-nil}
+use mathlib.Core.Path.{_≡_, sym, ap, _∙_}
+use mathlib.Core.List.{List, [], _∷_, _++_}
 use Prim.Native.Nat.{ℕ, suc, _-_, _≤_}
 use native.Mathlib.Omega.{arith}
 use lib.ListN.{length, drop}
@@ -10,10 +10,9 @@ use Rattle.records.specs.Reply.{bytesOf}
 use Rattle.records.specs.Row.{Row, rowIn}
 use Rattle.records.specs.Codes.{UNKNOWN, FULL}
 use Rattle.records.specs.Run.{Out, stop, ahead, choose, one, run}
-use Rattle.records.proofs.TallyLaws.{⊞-nothing}
-use Rattle.records.proofs.RunLaws.{choose-elim, run-stop}
+use Rattle.records.proofs.RunLaws.{choose-elim, sound, by-refused}
 use Rattle.records.proofs.StepLaws.{choose-unknown}
-use Rattle.records.proofs.SplitLaws.{run-more, run-ends}
+use Rattle.records.proofs.SplitLaws.{ahead-stop, run-more, run-ends}
 
 -- a record that is refused for its kind is refused so with more behind it and with any room
 one-unknown : (T : List Row) (s t : List ℕ) (room large : ℕ) → one T s room .code ≡ UNKNOWN → one T (s ++ t) large ≡ stop UNKNOWN
@@ -30,9 +29,6 @@ one-unknown T (k ∷ s) t room large e =
     (λ _ _ _ c. let z : _≡_ {A = ℕ} 0 1 = c in absurd (omega arith))
     e
 
-ahead-stop : (o : Out) → o .code ≡ UNKNOWN → ahead o (stop UNKNOWN) ≡ o
-ahead-stop o e = λ i. record { code = sym e i; tally = ⊞-nothing (o .tally) i; bytes = append-nil (o .bytes) i }
-
 -- an unknown kind stops a run whatever follows
 pub stays-unknown : (T : List Row) (s t : List ℕ) (room large : ℕ) → room ≤ large → run T s room .code ≡ UNKNOWN → run T (s ++ t) large ≡ run T s room
 stays-unknown T s t room large le e =
@@ -42,8 +38,8 @@ stays-unknown T s t room large le e =
     let u : one T (rest ++ t) more ≡ stop UNKNOWN =
     one-unknown T rest t (room - o .tally .written) more (ap (λ (x : Out). x .code) (run-ends T s room) ∙ e) in
     run-more T s t room large le
-    ∙ ap (ahead o) (run-stop T (rest ++ t) more (ap (λ (x : Out). x .tally .records) u) ∙ u)
-    ∙ ahead-stop o e
+    ∙ ap (ahead o) (by-refused (one T) (sound T) (rest ++ t) more UNKNOWN u)
+    ∙ ahead-stop o UNKNOWN ∙ (λ i. record { code = sym e i; tally = o .tally; bytes = o .bytes })
 
 -- every body has at most n bytes
 abbrev pub Narrow : ℕ → List Row → Type 0

@@ -1,4 +1,4 @@
--- What a batch does, over any table of kinds.
+-- What a run does: by any step, and a batch by a table of kinds.
 use Prim.Native.Nat.{ℕ, zero, suc, _+_, _-_}
 use mathlib.Core.List.{List, [], _∷_, _++_}
 use lib.ListN.{length, drop}
@@ -51,13 +51,17 @@ abbrev pub next : ℕ → Out → Out → Out
 next zero o rest = o
 next (suc n) o rest = ahead o rest
 
--- at most n records
-unfoldable pub steps : List Row → ℕ → List ℕ → ℕ → Out
-steps T zero s room = stop DONE
-steps T (suc n) s room =
-    let o = one T s room in
-    next (o .tally .records) o (steps T n (drop (o .tally .read) s) (room - o .tally .written))
+-- at most n items, by a step that takes the first of them or stops
+unfoldable pub stepsBy : (List ℕ → ℕ → Out) → ℕ → List ℕ → ℕ → Out
+stepsBy S zero s room = stop DONE
+stepsBy S (suc n) s room =
+    let o = S s room in
+    next (o .tally .records) o (stepsBy S n (drop (o .tally .read) s) (room - o .tally .written))
 
 -- all of them: each takes one byte at least
-unfoldable pub run : List Row → List ℕ → ℕ → Out
-run T s room = steps T (suc (length s)) s room
+unfoldable pub runBy : (List ℕ → ℕ → Out) → List ℕ → ℕ → Out
+runBy S s room = stepsBy S (suc (length s)) s room
+
+-- all records, by a table
+abbrev pub run : List Row → List ℕ → ℕ → Out
+run T s room = runBy (one T) s room

@@ -4,6 +4,7 @@ use digits::put;
 ghost use mathlib.Core.Path.{_≡_};
 ghost use lib.Seq.{sets};
 ghost use Rattle.records.specs.Reply.{bytesOf};
+ghost use Rattle.records.specs.Tally.{nothing};
 
 // An answer before it is written: its first byte, then `width` bytes of `bits` and `more` bytes of `extra`.
 pub struct Reply {
@@ -41,4 +42,18 @@ pub struct Tally {
 pub struct Report {
     pub code: u8,
     pub tally: Tally,
+}
+
+// Nothing done, for the reason of a code.
+pub fn stopped(code: u8) -> Report
+    ensures { λ r. ⌜ r ≡ record { code = code; tally = nothing } ⌝ }
+{
+    Report {
+        code,
+        tally: Tally {
+            records: 0,
+            read: 0,
+            written: 0,
+        },
+    }
 }

@@ -5,7 +5,7 @@ use Prim.Native.Nat.{ℕ}
 use Rattle.digits.specs.Digits.{digits}
 use Rattle.records.specs.Reply.{bytesOf}
 use Rattle.records.specs.Row.{rowIn}
-use Rattle.records.specs.Run.{Out, run, steps, one}
+use Rattle.records.specs.Run.{Out, run, runBy, stepsBy, one}
 use Rattle.kinds.specs.Shape.{shapeIn}
 use Rattle.kinds.specs.Kinds.{shapes}
 use Rattle.replies.specs.Table.{meanings, table}
@@ -19,21 +19,21 @@ abbrev erf6 : List ℕ
 erf6 = 3 ∷ 0 ∷ 0 ∷ 0 ∷ 0 ∷ 0 ∷ 0 ∷ 24 ∷ 64 ∷ []
 
 pub whole : Counts (run table erf6 9) 0 1 9 9
-unfolding run steps one rowIn table meanings shapes shapeIn bytesOf digits
+unfolding runBy stepsBy one rowIn table meanings shapes shapeIn bytesOf digits
 whole = (refl, refl)
 
 pub no-room : Counts (run table erf6 8) 3 0 0 0
-unfolding run steps one rowIn table meanings shapes shapeIn bytesOf digits
+unfolding runBy stepsBy one rowIn table meanings shapes shapeIn bytesOf digits
 no-room = (refl, refl)
 
 pub cut-before-full : Counts (run table (4 ∷ 0 ∷ []) 0) 2 0 0 0
-unfolding run steps one rowIn table meanings shapes shapeIn bytesOf digits
+unfolding runBy stepsBy one rowIn table meanings shapes shapeIn bytesOf digits
 cut-before-full = (refl, refl)
 
 pub unknown-before-cut : Counts (run table (200 ∷ []) 0) 1 0 0 0
-unfolding run steps one rowIn table meanings shapes shapeIn bytesOf digits
+unfolding runBy stepsBy one rowIn table meanings shapes shapeIn bytesOf digits
 unknown-before-cut = (refl, refl)
 
 pub nothing : Counts (run table [] 0) 0 0 0 0
-unfolding run steps one rowIn table meanings shapes shapeIn bytesOf digits
+unfolding runBy stepsBy one rowIn table meanings shapes shapeIn bytesOf digits
 nothing = (refl, refl)

@@ -4,23 +4,16 @@ use mathlib.Core.List.{List}
 use Prim.Native.Nat.{ℕ}
 use contract.Lifetimes.{Lfts}
 use denote.Ref.{RefT, now, ptr}
-use Rattle.records.specs.Run.{Out}
-use Rattle.records.specs.Did.{Did}
 use Rattle.records.specs.declared.Report.{Report}
+use Rattle.records.proofs.StepLaws.{did-same}
 use Rattle.stream.proofs.batch.Reads as batch
 use Rattle.stream.proofs.batch_rest.Reads as rest
 use Rattle.stream.proofs.batch_front.Reads as front
 
-same-report : (o : Out) (r r' : Report) (p : ℕ) (a b b' : List ℕ) → Did o r p a b → Did o r' p a b' → r ≡ r'
-same-report o r r' p a b b' d d' = λ i. record {
-  code = (d .code ∙ sym (d' .code)) i;
-  tally = (d .tally ∙ sym (d' .tally)) i;
-}
-
 -- the code, the counts, and every byte of the answer buffer
 pub batch-determined : (κs : Lfts 2) (a : _) (r r' : Report) (s s' : _) → batch.Post κs a r s → batch.Post κs a r' s' →
     (r ≡ r') × (now (s .1 .0) ≡ now (s' .1 .0))
-batch-determined κs a r r' s s' p q = (same-report _ r r' 0 (now (a .1 .0)) (now (s .1 .0)) (now (s' .1 .0)) p q, p .buffer ∙ sym (q .buffer))
+batch-determined κs a r r' s s' p q = did-same _ r r' 0 (now (a .1 .0)) (now (s .1 .0)) (now (s' .1 .0)) p q
 
 -- the tail, its place, and every byte of the answer buffer
 pub rest-determined : (κs : Lfts 2) (a : _) (r r' : RefT (List ℕ)) (s s' : _) → rest.Post κs a r s → rest.Post κs a r' s' →

@@ -3,13 +3,14 @@ use digits::get;
 use kinds::body;
 use records::Report;
 use records::Tally;
+use records::stopped;
 use records::write;
 use replies::reply_to;
 ghost use Prim.Native.Nat.{_+_, _-_, _≤_, _<_, _^_};
 ghost use mathlib.Core.Path.{_≡_};
 ghost use lib.ListN.{length, drop};
 ghost use Rattle.replies.specs.Table.{table};
-ghost use Rattle.records.specs.Tally.{nothing, _⊞_};
+ghost use Rattle.records.specs.Tally.{_⊞_};
 ghost use Rattle.records.specs.Run.{one};
 ghost use Rattle.records.specs.Did.{Did};
 ghost use Rattle.stream.specs.Batch.{batchS};
@@ -23,20 +24,6 @@ pub const UNKNOWN: u8 = 1;
 pub const CUT: u8 = 2;
 
 pub const FULL: u8 = 3;
-
-// Nothing done, for the reason of a code.
-fn stopped(code: u8) -> Report
-    ensures { λ r. ⌜ r ≡ record { code = code; tally = nothing } ⌝ }
-{
-    Report {
-        code,
-        tally: Tally {
-            records: 0,
-            read: 0,
-            written: 0,
-        },
-    }
-}
 
 // A record with a body of `width` bytes, answered by `written`.
 fn took(width: usize, written: usize) -> Report

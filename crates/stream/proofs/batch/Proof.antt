@@ -6,13 +6,15 @@ use native.Mathlib.Omega.{arith}
 use lib.ListN.{length}
 use Rattle.replies.specs.Table.{table}
 use Rattle.records.specs.Tally.{_⊞_}
+use Rattle.records.specs.Run.{one}
 use Rattle.records.specs.declared.Tally.{Tally}
+use Rattle.records.proofs.RunLaws.{sound}
 use Rattle.records.proofs.LoopLaws.{Going, going-none, going-on, going-further, going-done}
 use Rattle.stream.proofs.batch.Statement.{statement}
 use Rattle.stream.proofs.batch.Tie as tie
 
 abbrev Inv-loop : tie.InvT-loop
-Inv-loop requests answers₀ tally₀ answers tally = Going table requests answers₀ answers tally
+Inv-loop requests answers₀ tally₀ answers tally = Going (one table) requests answers₀ answers tally
 
 abbrev μ-loop : tie.MeasureT-loop
 μ-loop requests answers₀ tally₀ answers tally = length requests - tally .read
@@ -35,11 +37,11 @@ module _ (q : tie.After-struct-known Inv-loop μ-loop) where
   after = turn .step .last .1 .1 .0
 
   -- where a record was taken, the loop stands further on
-  on : (turn .step .result .tally .records ≡ 0 → ⊥) → Going table requests first after (stood .loop .tally ⊞ turn .step .result .tally)
-  on z = going-on table requests first (stood .loop .answers) after (stood .loop .tally) (turn .step .result) (stood .loop .inv) (turn .step .ensures) z
+  on : (turn .step .result .tally .records ≡ 0 → ⊥) → Going (one table) requests first after (stood .loop .tally ⊞ turn .step .result .tally)
+  on z = going-on (one table) (sound table) requests first (stood .loop .answers) after (stood .loop .tally) (turn .step .result) (stood .loop .inv) (turn .step .ensures) z
 
 loop-holds : tie.Need-loop-holds Inv-loop μ-loop
-loop-holds c = going-none table _ _
+loop-holds c = going-none (one table) _ _
 
 step-requires : tie.Need-step-requires Inv-loop μ-loop
 step-requires c κs = let i = c .before .loop .inv in (i .inside, i .within)
@@ -50,7 +52,7 @@ same-length c = let q = c .before in turn q .step .kept .1 .1 .0 ∙ stood q .lo
 returns : tie.Need-returns Inv-loop μ-loop
 returns c =
     let q = c .before in
-    going-done table (requests q) (first q) (stood q .loop .answers) (after q) (stood q .loop .tally) (turn q .step .result) (stood q .loop .inv) (turn q .step .ensures) (c .if1 .taken)
+    going-done (one table) (sound table) (requests q) (first q) (stood q .loop .answers) (after q) (stood q .loop .tally) (turn q .step .result) (stood q .loop .inv) (turn q .step .ensures) (c .if1 .taken)
 
 add-requires : tie.Need-add-requires Inv-loop μ-loop
 add-requires c κs = let g = on (c .before) (c .if1 .left) in (omega (arith, g .count, g .inside), (omega (arith, g .inside), omega (arith, g .within, g .same)))
@@ -58,13 +60,13 @@ add-requires c κs = let g = on (c .before) (c .if1 .left) in (omega (arith, g .
 loop-less : tie.Need-loop-less Inv-loop μ-loop
 loop-less c =
     let q = c .before .before in
-    let f = going-further table (requests q) (first q) (stood q .loop .answers) (after q) (stood q .loop .tally) (turn q .step .result) (stood q .loop .inv) (turn q .step .ensures) (c .before .if1 .left) in
+    let f = going-further (one table) (sound table) (requests q) (first q) (stood q .loop .answers) (after q) (stood q .loop .tally) (turn q .step .result) (stood q .loop .inv) (turn q .step .ensures) (c .before .if1 .left) in
     omega (arith, f, on q (c .before .if1 .left) .inside, ap (λ (t : Tally). t .read) (c .add .ensures))
 
 loop-again : tie.Need-loop-again Inv-loop μ-loop
 loop-again c =
     let q = c .before .before in
-    subst (Going table (requests q) (first q) (after q)) (sym (c .add .ensures)) (on q (c .before .if1 .left))
+    subst (Going (one table) (requests q) (first q) (after q)) (sym (c .add .ensures)) (on q (c .before .if1 .left))
 
 pub batch-spec : {M : Type 1} → statement M
 batch-spec =

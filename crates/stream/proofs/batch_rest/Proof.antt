@@ -3,7 +3,9 @@ use mathlib.Core.Path.{ap}
 use Prim.Native.Nat.{ℕ, _+_}
 use lib.ListN.{length}
 use Rattle.replies.specs.Table.{table}
+use Rattle.records.specs.Run.{one}
 use Rattle.records.specs.declared.Tally.{Tally}
+use Rattle.records.proofs.RunLaws.{sound}
 use Rattle.records.proofs.LoopLaws.{read-in, unread}
 use borrow.Author.Needs.{needs}
 use Rattle.stream.proofs.batch_rest.Statement.{statement}
@@ -16,13 +18,13 @@ sub-result : tie.Need-sub-result
 sub-result c =
     let a = c .before .before .before .before .before .before .before .args in
     let t = c .before .before .before .batch in
-    read-in table (a .requests .now) (length (a .answers .now)) (t .result .tally .read) (ap (λ (x : Tally). x .read) (t .ensures .tally))
+    read-in (one table) (sound table) (a .requests .now) (length (a .answers .now)) (t .result .tally .read) (ap (λ (x : Tally). x .read) (t .ensures .tally))
 
 part-result-start : tie.Need-part-result-start
 part-result-start c =
     let a = c .before .before .before .before .before .before .before .args in
     let t = c .before .before .before .batch in
-    read-in table (a .requests .now) (length (a .answers .now)) (t .result .tally .read) (ap (λ (x : Tally). x .read) (t .ensures .tally))
+    read-in (one table) (sound table) (a .requests .now) (length (a .answers .now)) (t .result .tally .read) (ap (λ (x : Tally). x .read) (t .ensures .tally))
 
 part-result-end : tie.Need-part-result-end
 part-result-end c = search needs
@@ -34,7 +36,7 @@ returns : tie.Need-returns
 returns c =
     let a = c .before .before .before .before .before .before .before .before .args in
     let t = c .before .before .before .before .batch in
-    record { tail = unread table (a .requests .now) (length (a .answers .now)) (t .result .tally .read) (ap (λ (x : Tally). x .read) (t .ensures .tally)); buffer = t .ensures .buffer; place = ap (λ (k : ℕ). (a .requests .ptr .0, k + a .requests .ptr .1)) (ap (λ (x : Tally). x .read) (t .ensures .tally)) }
+    record { tail = unread (one table) (sound table) (a .requests .now) (length (a .answers .now)) (t .result .tally .read) (ap (λ (x : Tally). x .read) (t .ensures .tally)); buffer = t .ensures .buffer; place = ap (λ (k : ℕ). (a .requests .ptr .0, k + a .requests .ptr .1)) (ap (λ (x : Tally). x .read) (t .ensures .tally)) }
 
 pub batch-rest-spec : {M : Type 1} → statement M
 batch-rest-spec =
