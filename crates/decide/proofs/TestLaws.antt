@@ -9,7 +9,7 @@ use lib.Signed.{ltZ}
 use mir.Syntax.{w64}
 use mir.Val.{toZ, ofZ, SFits}
 use mir.ValLaws.{toZ-ofZ}
-use Rattle.decide.specs.Decide.{afterS}
+use Rattle.decide.specs.Decide.{afterS, atEndS}
 use Rattle.decide.specs.declared.Next.the-variants.{Go, Close, Break}
 
 apart : {X : Type 0} → true ≡ false → X
@@ -50,3 +50,11 @@ module _ (code kept : ℕ) where
   goes-on (pos n) true e s h z = rw (ne-eqb code 1 h, ne-eqb n 0 z)
   goes-on (pos n) false e s h z = apart s
   goes-on (negsuc n) sent e s h z = apart e
+
+-- the end of the input
+pub end-not : (got : ℤ) → (ofZ w64 got ≡ 0 → ⊥) → false ≡ atEndS got
+end-not (pos n) z = sym (ne-eqb n 0 z)
+end-not (negsuc n) z = refl
+
+pub end-so : (got : ℤ) → SFits w64 got → ofZ w64 got ≡ 0 → true ≡ atEndS got
+end-so got f z = ap atEndS (ap (toZ w64) (sym z) ∙ toZ-ofZ w64 got f)

@@ -1,9 +1,9 @@
-// What the program `answers` decides: what comes after a turn, which bytes close the output, and what it gives back. Nothing here reads or
-// writes.
+// What the programs decide: what comes after a turn, which bytes close the output of `answers`, what it gives back, and what is the end of
+// the input. Nothing here reads or writes.
 ghost use mathlib.Core.Path.{_≡_};
 ghost use mathlib.Core.List.{[], _∷_};
 ghost use lib.ListN.{length};
-ghost use Rattle.decide.specs.Decide.{afterS, closingS, endS};
+ghost use Rattle.decide.specs.Decide.{afterS, closingS, endS, atEndS};
 
 // The stop code of a kind that is not in the table.
 const UNKNOWN: u8 = 1;
@@ -60,4 +60,14 @@ pub fn end(code: u8, sent: bool) -> u8
     ensures { λ r. ⌜ r ≡ endS code sent ⌝ }
 {
     if sent { code } else { BROKEN }
+}
+
+// Whether a read that answered `got` is the end of the input: one of no byte.
+pub fn at_end(got: isize) -> bool
+    ensures { λ r. ⌜ r ≡ atEndS got ⌝ }
+{
+    if got != 0 {
+        return false;
+    }
+    true
 }

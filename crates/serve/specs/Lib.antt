@@ -1,4 +1,3 @@
 -- What the program does. Read in this order.
 pub mod Session
 pub mod Turn
-pub mod Post

@@ -1,9 +1,9 @@
 // A turn of the program: what stands in the input buffer is answered, the answers are sent, and the unread rest moves to the front.
 use crate::port::send;
+use session::to_front;
 use stream::batch;
-ghost use mathlib.Core.Path.{_≡_};
-ghost use Prim.Native.Nat.{_+_, _≤_};
-ghost use lib.ListN.{length, take, drop};
+ghost use Prim.Native.Nat.{_≤_};
+ghost use lib.ListN.{length, take};
 ghost use Rattle.serve.specs.Turn.{Turned};
 
 // Why the batch of a turn stopped, how many unread bytes are kept, and whether the answers were taken.
@@ -11,18 +11,6 @@ pub(crate) struct Round {
     pub(crate) code: u8,
     pub(crate) kept: usize,
     pub(crate) sent: bool,
-}
-
-// Moves the `count` bytes from `from` on to the front.
-fn shift(buf: &mut [u8], from: usize, count: usize)
-    requires { ⌜ from + count ≤ length (now buf) ⌝ }
-    ensures { λ _. ⌜ take count (now (buf .exit)) ≡ take count (drop from (now (buf .entry))) ⌝ }
-{
-    let mut i = 0;
-    while i < count {
-        buf[i] = buf[from + i];
-        i = i + 1;
-    }
 }
 
 // Answers the first `have` bytes of `buf` in `answers`, and sends the answers.
@@ -35,7 +23,7 @@ pub(crate) fn answer(buf: &mut [u8], have: usize, answers: &mut [u8]) -> Round
     let sent = send(&buf[..have], answers.len(), &answers[..written]);
     let read = t.tally.read;
     let kept = have - read;
-    shift(buf, read, kept);
+    to_front(buf, read, kept);
     Round {
         code: t.code,
         kept,

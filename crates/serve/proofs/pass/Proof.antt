@@ -1,10 +1,7 @@
 -- `serve::pass` meets its contract. Assumes nothing.
-use mathlib.Core.Path.{sym, subst}
-use Prim.Native.Nat.{ℕ}
 use native.Mathlib.Omega.{arith}
 use borrow.Author.Needs.{needs}
-use Rattle.libc.specs.Io.{Moved}
-use Rattle.serve.proofs.PassLaws.{passed}
+use Rattle.serve.proofs.PassLaws.{batch-passed}
 use Rattle.serve.proofs.pass.Statement.{statement}
 use Rattle.serve.proofs.pass.Tie as tie
 
@@ -54,10 +51,9 @@ returns c =
     let g = w .before .before .before .before .before .before .before .before .read in
     let s = w .before .before .before .before .before .before .before .before .before .before .before .before in
     let a = s .args in
-    let m = subst (λ (k : ℕ). Moved k (g .result)) (sym (g .kept .0)) (g .ensures) in
-    passed (a .have) (n .result) (a .buf .now) (g .last .0) (a .answers .now) (w .answer .last .0) (w .answer .last .1 .1 .0) (g .result)
-    (w .answer .result) (c .after .result) (omega (arith, s .pre)) (record { sfits = g .ok }) m (n .ensures .1) (w .answer .ensures)
-    (w .answer .kept .0) (c .after .ensures)
+    batch-passed (a .have) (n .result) (a .buf .now) (g .last .0) (a .answers .now) (w .answer .last .0) (w .answer .last .1 .1 .0) (g .result)
+    (w .answer .result) (c .after .result) (omega (arith, s .pre)) (record { sfits = g .ok }) (g .kept .0) (g .ensures) (n .ensures .1)
+    (w .answer .ensures) (c .after .ensures)
 
 pub pass-spec : {M : Type 1} → statement M
 pass-spec =

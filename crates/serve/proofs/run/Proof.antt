@@ -1,5 +1,5 @@
 -- `serve::run` meets its contract: the turns, the closing bytes, and what became of them. Assumes nothing.
-use mathlib.Core.Path.{sym, ap, _∙_}
+use mathlib.Core.Path.{_≡_, sym, ap, _∙_, subst}
 use Prim.Native.Nat.{ℕ, _≤_}
 use native.Mathlib.Omega.{arith}
 use borrow.Author.Needs.{needs}
@@ -7,7 +7,9 @@ use lib.ListN.{length, take, length-replicate}
 use lib.Seq.{length-take-le}
 use Rattle.decide.specs.declared.Last.{Last}
 use Rattle.decide.proofs.DecideLaws.{closing-in, closing-front}
-use Rattle.serve.proofs.LoopLaws.{served}
+use Rattle.session.specs.Post.{Ran}
+use Rattle.session.proofs.LoopLaws.{served}
+use Rattle.serve.specs.Session.{answering}
 use Rattle.serve.proofs.run.Statement.{statement}
 use Rattle.serve.proofs.run.Tie as tie
 
@@ -46,11 +48,16 @@ close-requires c κs =
 end-requires : tie.Need-end-requires
 end-requires c κs = search needs
 
+-- the turns in buffers of the program's sizes
+in-sizes : (size room code : ℕ) → size ≡ 32768 → room ≡ 65536 → Ran (answering room) size code → Ran (answering 65536) 32768 code
+in-sizes size room code es er t = subst (λ (n : ℕ). Ran (answering 65536) n code) es (subst (λ (n : ℕ). Ran (answering n) size code) er t)
+
 returns : tie.Need-returns
 returns c =
     let t = c .before .before .before .before .before .before .before in
-    served _ _ (t .turns .result) (c .end .result) (c .before .close .result) (length-replicate {A = ℕ} 32768 0)
-    (sym (t .before .before .before .large-buffer .ensures)) (t .turns .ensures) (c .end .ensures)
+    let k = t .turns .result in
+    let sizes = in-sizes _ _ k (length-replicate {A = ℕ} 32768 0) (sym (t .before .before .before .large-buffer .ensures)) (t .turns .ensures) in
+    served (answering 65536) 32768 k (c .end .result) (c .before .close .result) sizes (c .end .ensures)
 
 pub run-spec : {M : Type 1} → statement M
 run-spec =

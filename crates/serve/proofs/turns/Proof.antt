@@ -5,14 +5,16 @@ use Prim.Native.Nat.{ℕ, _≤_}
 use native.Mathlib.Omega.{arith}
 use borrow.Author.Needs.{needs}
 use lib.ListN.{length, take}
-use Rattle.serve.specs.Post.{Passed}
-use Rattle.serve.proofs.LoopLaws.{Going, going-none, going-out, going-close, going-break, going-on}
+use Rattle.session.specs.Post.{Passed}
+use Rattle.session.proofs.LoopLaws.{Going, going-none, going-out, going-close, going-break, going-on}
+use Rattle.serve.specs.Session.{answering}
+use Rattle.serve.proofs.PassLaws.{kept-small}
 use Rattle.serve.proofs.turns.Statement.{statement}
 use Rattle.serve.proofs.turns.Tie as tie
 
 abbrev Inv-loop : tie.InvT-loop
 Inv-loop buf₀ answers₀ have₀ turns₀ buf answers have turns =
-    ((have ≤ 8) × ((length buf ≡ length buf₀) × (length answers ≡ length answers₀))) × Going (length buf₀) (length answers₀) turns (take have buf)
+    ((have ≤ 8) × ((length buf ≡ length buf₀) × (length answers ≡ length answers₀))) × Going (answering (length answers₀)) (length buf₀) turns (take have buf)
 
 abbrev μ-loop : tie.MeasureT-loop
 μ-loop buf₀ answers₀ have₀ turns₀ buf answers have turns = turns
@@ -24,17 +26,23 @@ start c = c .before .before .before .before .before .before .before
 abbrev at : (c : tie.After-pass Inv-loop μ-loop) → tie.At-loop Inv-loop μ-loop
 at c = c .before .before .before .before
 
+-- the sizes of the buffers that were lent, which they keep
+abbrev size : tie.After-pass Inv-loop μ-loop → ℕ
+size c = length (start c .args .buf .now)
+
+abbrev room : tie.After-pass Inv-loop μ-loop → ℕ
+room c = length (start c .args .answers .now)
+
 passed : (c : tie.After-pass Inv-loop μ-loop) →
-    Passed (length (start c .args .answers .now)) (take (at c .loop .have) (at c .loop .buf)) (c .pass .result) (c .pass .last .0)
+    Passed (answering (room c)) (size c) (take (at c .loop .have) (at c .loop .buf)) (c .pass .result) (c .pass .last .0)
 passed c =
     let l = at c .loop in
-    subst (λ (k : ℕ). Passed k (take (l .have) (l .buf)) (c .pass .result) (c .pass .last .0)) (l .inv .0 .1 .1) (c .pass .ensures)
-
-same : (c : tie.After-pass Inv-loop μ-loop) → length (c .pass .last .0) ≡ length (start c .args .buf .now)
-same c = c .pass .kept .0 ∙ at c .loop .inv .0 .1 .0
+    subst (λ (k : ℕ). Passed (answering (room c)) k (take (l .have) (l .buf)) (c .pass .result) (c .pass .last .0)) (l .inv .0 .1 .0)
+    (subst (λ (k : ℕ). Passed (answering k) (length (l .buf)) (take (l .have) (l .buf)) (c .pass .result) (c .pass .last .0)) (l .inv .0 .1 .1)
+    (c .pass .ensures))
 
 loop-holds : tie.Need-loop-holds Inv-loop μ-loop
-loop-holds c = ((omega arith, (refl, refl)), going-none (length (c .before .before .args .buf .now)) (length (c .before .before .args .answers .now)))
+loop-holds c = ((omega arith, (refl, refl)), going-none (answering (length (c .before .before .args .answers .now))) (length (c .before .before .args .buf .now)))
 
 sub-turns : tie.Need-sub-turns Inv-loop μ-loop
 sub-turns c = search needs
@@ -52,12 +60,13 @@ loop-again : tie.Need-loop-again Inv-loop μ-loop
 loop-again c =
     let k = c .before .kept in
     let p = c .before .before .before .before .before .before .before in
-    let a = start p .args in
     let l = at p .loop in
-    let g =
-    going-on (length (a .buf .now)) (length (a .answers .now)) (l .turns) (take (l .have) (l .buf)) (l .inv .1) (p .pass .result) (p .pass .last .0)
-    (passed p) (same p) (k .given .0 .0) (k .given .1) (start p .pre .1) (omega arith) in
-    ((omega (arith, g .0), (same p, p .pass .kept .1 .1 .0 ∙ l .inv .0 .1 .1)), g .1)
+    let small =
+    kept-small (size p) (room p) (take (l .have) (l .buf)) (p .pass .result) (p .pass .last .0) (passed p) (k .given .0 .0) (k .given .1) (start p .pre .1) in (
+      (omega (arith, small), (p .pass .kept .0 ∙ l .inv .0 .1 .0, p .pass .kept .1 .1 .0 ∙ l .inv .0 .1 .1)),
+      going-on (answering (room p)) (size p) (l .turns) (take (l .have) (l .buf)) (l .inv .1) (p .pass .result) (p .pass .last .0) (passed p)
+          (k .given .0 .0) (k .given .1) (omega arith),
+    )
 
 enum-known-code : tie.Need-enum-known-code Inv-loop μ-loop
 enum-known-code c = search needs
@@ -72,10 +81,9 @@ returns : tie.Need-returns Inv-loop μ-loop
 returns c =
     let k = c .before .code in
     let p = c .before .before .before .before .before .before .before in
-    let a = start p .args in
     let l = at p .loop in
-    going-close (length (a .buf .now)) (length (a .answers .now)) (l .turns) (take (l .have) (l .buf)) (l .inv .1) (p .pass .result) (p .pass .last .0)
-    (passed p) (same p) (k .given .0 .0) (k .given .1)
+    going-close (answering (room p)) (size p) (l .turns) (take (l .have) (l .buf)) (l .inv .1) (p .pass .result) (p .pass .last .0)
+    (passed p) (k .given .0 .0) (k .given .1)
 
 enum-told : tie.Need-enum-told Inv-loop μ-loop
 enum-told c = search needs
@@ -89,10 +97,9 @@ same-length-4 c = search needs
 returns-2 : tie.Need-returns-2 Inv-loop μ-loop
 returns-2 c =
     let p = c .before .before .before .before .before .before in
-    let a = start p .args in
     let l = at p .loop in
-    going-break (length (a .buf .now)) (length (a .answers .now)) (l .turns) (take (l .have) (l .buf)) (l .inv .1) (p .pass .result) (p .pass .last .0)
-    (passed p) (same p) (c .enum-told .given .1)
+    going-break (answering (room p)) (size p) (l .turns) (take (l .have) (l .buf)) (l .inv .1) (p .pass .result) (p .pass .last .0)
+    (passed p) (c .enum-told .given .1)
 
 same-length-5 : tie.Need-same-length-5 Inv-loop μ-loop
 same-length-5 c = search needs
@@ -104,7 +111,7 @@ returns-3 : tie.Need-returns-3 Inv-loop μ-loop
 returns-3 c =
     let l = c .before .loop in
     let a = c .before .before .before .before .args in
-    going-out (length (a .buf .now)) (length (a .answers .now)) (l .turns) (take (l .have) (l .buf)) (l .inv .1) (omega arith)
+    going-out (answering (length (a .answers .now))) (length (a .buf .now)) (l .turns) (take (l .have) (l .buf)) (l .inv .1) (omega arith)
 
 pub turns-spec : {M : Type 1} → statement M
 turns-spec =

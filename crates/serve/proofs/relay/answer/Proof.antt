@@ -8,11 +8,11 @@ use lib.ListN.{length, take, drop}
 use lib.Seq.{length-take-le, length-sets}
 use Rattle.replies.specs.Table.{table}
 use Rattle.stream.specs.Batch.{batchS}
-use Rattle.records.specs.Run.{run}
+use Rattle.records.specs.Run.{one, run}
 use Rattle.records.specs.declared.Tally.{Tally}
-use Rattle.records.proofs.RunLaws.{run-within}
+use Rattle.records.proofs.RunLaws.{sound, run-within}
 use Rattle.records.proofs.LoopLaws.{front, front-in, front-length}
-use Rattle.serve.proofs.ShiftLaws.{take-drop}
+use Rattle.session.proofs.FrontLaws.{moved-front, take-drop}
 use Rattle.serve.proofs.relay.answer.Statement.{statement}
 use Rattle.serve.proofs.relay.answer.Tie as tie
 
@@ -62,27 +62,24 @@ slice-aggregate-send c = sym (requests-length (c .before .before .before))
 slice-reshare-prefix-send-2 : tie.Need-slice-reshare-prefix-send-2
 slice-reshare-prefix-send-2 c =
     let b = c .before .before .before in
-    front-in table (requests b) (before b) (after b) (b .batch .result .tally .written) (written-is b) (b .batch .ensures .buffer)
+    front-in (one table) (sound table) (requests b) (before b) (after b) (b .batch .result .tally .written) (written-is b) (b .batch .ensures .buffer)
 
 slice-aggregate-send-2 : tie.Need-slice-aggregate-send-2
 slice-aggregate-send-2 c =
     let b = c .before .before .before .before in
-    front-length table (requests b) (before b) (after b) (b .batch .result .tally .written) (written-is b) (b .batch .ensures .buffer)
+    front-length (one table) (sound table) (requests b) (before b) (after b) (b .batch .result .tally .written) (written-is b) (b .batch .ensures .buffer)
 
 send-requires : tie.Need-send-requires
 send-requires c κs =
     let b = c .before .before .before .before in
-    front table (requests b) (before b) (after b) (b .batch .result .tally .written) (written-is b) (b .batch .ensures .buffer)
+    front (one table) (sound table) (requests b) (before b) (after b) (b .batch .result .tally .written) (written-is b) (b .batch .ensures .buffer)
     ∙ ap (λ (n : ℕ). run table (requests b) n .bytes) (sym (room b))
 
 sub-kept : tie.Need-sub-kept
 sub-kept c = read-in (c .before .before .before .before .before)
 
-shift-requires : tie.Need-shift-requires
-shift-requires c κs =
-    let b = c .before .before .before .before .before .before in
-    let r = read-in b in
-    omega (arith, start b .pre)
+to-front-requires : tie.Need-to-front-requires
+to-front-requires c κs = search needs
 
 same-length : tie.Need-same-length
 same-length c = search needs
@@ -95,12 +92,15 @@ returns c =
     let b = c .before .before .before .before .before .before .before .before .before in
     let a = start b .args in
     let d = b .batch .ensures in
+    let k = b .batch .result .tally .read in
     record {
       code = d .code;
       kept = omega (arith, read-is b, requests-length b);
       rest =
-          c .before .before .shift .ensures ∙ take-drop (a .buf .now) (b .batch .result .tally .read) (a .have) (read-in b) (start b .pre)
-          ∙ ap (λ (k : ℕ). drop k (requests b)) (read-is b);
+          ap (take (a .have - k)) (c .before .before .to-front .ensures)
+          ∙ moved-front (a .buf .now) k (a .have - k) (omega (arith, read-in b, start b .pre))
+          ∙ take-drop (a .buf .now) k (a .have) (read-in b) (start b .pre)
+          ∙ ap (λ (i : ℕ). drop i (requests b)) (read-is b);
       answers = d .buffer;
     }
 
@@ -117,7 +117,7 @@ answer-spec =
     slice-aggregate-send-2
     send-requires
     sub-kept
-    shift-requires
+    to-front-requires
     same-length
     same-length-2
     returns)
