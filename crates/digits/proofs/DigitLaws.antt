@@ -2,7 +2,7 @@
 use mathlib.Core.Path.{_≡_, refl, sym, ap, _∙_}
 use mathlib.Core.List.{List, [], _∷_, _++_}
 use Prim.Native.Nat.{ℕ, zero, suc, _+_, _-_, _*_, _^_, _/_, _%_, _≤_, _<_}
-use native.Mathlib.Nat.{zero-add, suc-add, one-mul, pow-suc, pow-le-pow-right, mod-eq-of-lt, add-mul-mod-self-left}
+use native.Mathlib.Nat.{zero-add, suc-add, zero-mul, suc-mul, one-mul, pow-zero, pow-suc, pow-le-pow-right, mod-eq-of-lt, add-mul-mod-self-left}
 use native.Mathlib.Omega.{arith}
 use lib.Dec.{lit<}
 use lib.Pow.{pow-add, shl-exact}
@@ -35,13 +35,14 @@ word-more s at w i h l =
 pub byte-more : (n x b : ℕ) → x < 256 ^ n → b < 256 → x * 256 + b < 256 ^ suc n
 byte-more n x b h l = rw pow-suc (omega arith)
 
+-- a power of a power
+pub pow-mul : (a k n : ℕ) → a ^ (n * k) ≡ (a ^ k) ^ n
+pow-mul a k zero = rw (zero-mul k, pow-zero a, pow-zero (a ^ k))
+pow-mul a k (suc n) = rw (suc-mul, pow-add, pow-mul a k n) (sym (pow-suc (a ^ k) n))
+
 -- a power of 256 by a shift
 pub shifted : (n : ℕ) → n < 8 → 1 * 2 ^ (n * 8) % 2 ^ 64 ≡ 256 ^ n
-shifted n h = shl-exact 1 (n * 8) 64 (lit< tt) (omega arith) ∙ one-mul (2 ^ (n * 8)) ∙ power n
-  where
-    power : (n : ℕ) → 2 ^ (n * 8) ≡ 256 ^ n
-    power zero = refl
-    power (suc n) = let e : suc n * 8 ≡ n * 8 + 8 = omega arith in rw (e, pow-add, power n) (sym (pow-suc 256 n))
+shifted n h = shl-exact 1 (n * 8) 64 (lit< tt) (omega arith) ∙ one-mul (2 ^ (n * 8)) ∙ pow-mul 2 8 n
 
 pub below-64 : (n x : ℕ) → n ≤ 8 → x < 256 ^ n → x < 18446744073709551616
 below-64 n x h l =

@@ -1,0 +1,2 @@
+-- Laws of numbers in hex: HexLaws.
+pub mod HexLaws

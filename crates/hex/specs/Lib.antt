@@ -1,0 +1,2 @@
+-- What numbers in hex are.
+pub mod Hex
