@@ -7,7 +7,7 @@ use Prim.Native.Nat.{ℕ, _+_, _*_, _%_, _^_, _≤_, _<_}
 use native.Mathlib.Nat.{mod-eq-of-lt}
 use native.Mathlib.Omega.{arith}
 use borrow.Author.Tests.{ne-eqb, eqb-true}
-use lib.Dec.{T, eqb, eqb→eq}
+use lib.Dec.{T, eqb, leb, eqb→eq, leb→le}
 use lib.ListN.{length}
 use Rattle.words.specs.Pick.{pick}
 use Rattle.kinds.specs.Shape.{Shape, shape, total, shapeIn, requestLength, answerLength}
@@ -98,6 +98,25 @@ row-width k = fits k .0
 pub reply-length : (k b : ℕ) → length (bytesOf (rowIn table k .reply b)) ≡ answerLength (shapeOf k)
 unfolding Fits
 reply-length k b = fits k .1 b
+
+-- the first value of each kind has at most eight bytes
+short : List Meaning → Bool
+short [] = true
+short (m ∷ ms) = leb (firstWidth (shapeOf (m .kind) .values)) 8 && short ms
+
+short-in : (ms : List Meaning) → T (short ms) → (k b : ℕ) → rowIn (map rowOf ms) k .reply b .width ≤ 8
+unfolding short rowIn
+short-in [] t k b = omega arith
+short-in (m ∷ ms) t k b =
+    either (eqb k (m .kind)) (leb→le _ 8 (and-left (leb (firstWidth (shapeOf (m .kind) .values)) 8) (short ms) t)) (short-in ms (and-right (leb (firstWidth (shapeOf (m .kind) .values)) 8) (short ms) t) k b)
+  where
+    either : (t : Bool) → rowOf m .reply b .width ≤ 8 → rowIn (map rowOf ms) k .reply b .width ≤ 8 → pick t (rowOf m) (rowIn (map rowOf ms) k) .reply b .width ≤ 8
+    either true p q = p
+    either false p q = q
+
+pub value-short : (k b : ℕ) → rowIn table k .reply b .width ≤ 8
+unfolding table meanings short shapes shapeIn
+value-short k b = short-in meanings tt k b
 
 -- a reply is at most twice as long as its request
 pub reply-light : (k b : ℕ) → length (bytesOf (rowIn table k .reply b)) ≤ 2 * (1 + rowIn table k .width)

@@ -1,0 +1,2 @@
+-- What the parts of the program `lines` promise, behind text/specs and session/specs.
+pub mod Post
