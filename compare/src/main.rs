@@ -1,5 +1,6 @@
 //! Compares the port with the Rust, bit for bit: the leaves by the program `leaves`, the request
-//! stream by the program `answers`, the C entries, their feed and their distance by a call.
+//! stream by the program `answers`, requests as text by the programs `lines` and `trip`, the C entries, their
+//! feed and their distance by a call.
 
 #[cfg(feature = "linked")]
 mod apart;
@@ -23,6 +24,7 @@ mod sample;
 mod stored;
 mod stream;
 mod tally;
+mod text;
 mod traffic;
 
 use distance::Pairs;
@@ -52,12 +54,19 @@ const USAGE: &str = "usage:
                                      (such a build)
   compare stream SEED COUNT [FILE]   COUNT requests of mixed kinds beside the systematic ones, and
                                      damaged streams
-  compare stored                     the lists and streams that the gate replays, answer by answer
+  compare lines SEED COUNT [FILE]    requests as text: COUNT random lines, good and bad, beside the systematic
+                                     ones, every damage of one byte, every front of a text, and long lines
+  compare trip SEED COUNT [FILE]     text to requests and back: COUNT lines in texts, in rooms of every sort,
+                                     and damaged streams
+  compare stored                     the lists, streams and texts that the gate replays, answer by answer
   compare constants [DIR]            every constant of the Rust in DIR, with the definitions and the code
   compare sample SEED STDIN STDOUT   writes a list of requests to leaves, and the Rust's answers
   compare requests SEED COUNT        writes COUNT requests of mixed kinds
+  compare text SEED COUNT            writes a text of COUNT lines, the last one without its newline
   compare answer                     the Rust in place of the program leaves
   compare answers                    the Rust in place of the program answers
+  compare replies                    the Rust in place of the program lines
+  compare tripped                    the Rust in place of the program trip
 FILE is a program to ask in place of the port's own; DIR the folder of crate libm, where it is not the one
 that this was built with.";
 
@@ -94,6 +103,7 @@ fn run(words: &[&str]) -> io::Result<u8> {
         ["stream", seed, count, file @ ..] => {
             compare_streams(number(seed)?, count_of(count)?, &program("answers", file)?)
         }
+        ["lines" | "trip" | "text" | "replies" | "tripped", ..] => text::run(words),
         ["stored"] => stored::compare(),
         ["constants", libm @ ..] => compare_constants(libm),
         ["sample", seed, requests, answers] => write_sample(number(seed)?, requests, answers),

@@ -2,8 +2,10 @@
 
 use std::io::{self, Read, Write};
 use std::path::PathBuf;
-use std::process::{Child, ChildStdin, ChildStdout, Command, Stdio};
+use std::process::{Child, ChildStdin, ChildStdout, Command, ExitStatus, Stdio};
+use std::sync::mpsc::{channel, Receiver};
 use std::thread;
+use std::time::Duration;
 
 /// The build of the Rust that this is: without its features, or with those that it has by default.
 pub const BUILD: &str = if cfg!(feature = "arch") {
@@ -14,6 +16,21 @@ pub const BUILD: &str = if cfg!(feature = "arch") {
 
 /// The requests that are written at once.
 const CHUNK: u64 = 8192;
+
+/// How long a reply is awaited before the program counts as silent.
+const PATIENCE: Duration = Duration::from_secs(30);
+
+/// A turn of a talk: what is said, and how many bytes are awaited before the next one.
+pub struct Turn {
+    pub said: Vec<u8>,
+    pub awaited: usize,
+}
+
+/// What a program said in a talk, and the turn, if any, that it did not reply to.
+pub struct Talk {
+    pub heard: Vec<u8>,
+    pub late: Option<usize>,
+}
 
 /// What is asked: the port's program of this name, or another file.
 pub enum Program {
@@ -75,6 +92,46 @@ impl Program {
         ended_well(&mut child, &mut output)?;
         Ok(answers)
     }
+
+    /// Says one turn after the other, each when all that was awaited has come. A program that is silent too
+    /// long is ended.
+    pub fn converse(&self, turns: &[Turn]) -> io::Result<Talk> {
+        let (mut child, mut input, output) = self.start()?;
+        let pieces = listen(output);
+        let (mut heard, mut awaited) = (Vec::new(), 0);
+        for (place, turn) in turns.iter().enumerate() {
+            // A program that ended early is seen by its silence.
+            input.write_all(&turn.said).ok();
+            awaited += turn.awaited;
+            while heard.len() < awaited {
+                let Ok(piece) = pieces.recv_timeout(PATIENCE) else {
+                    child.kill()?;
+                    child.wait()?;
+                    let late = Some(place);
+                    return Ok(Talk { heard, late });
+                };
+                heard.extend(piece);
+            }
+        }
+        drop(input);
+        heard.extend(pieces.iter().flatten());
+        well(child.wait()?)?;
+        Ok(Talk { heard, late: None })
+    }
+}
+
+/// What comes from a program, piece by piece, until it ends.
+fn listen(mut output: ChildStdout) -> Receiver<Vec<u8>> {
+    let (sender, pieces) = channel();
+    thread::spawn(move || {
+        let mut bytes = [0; 4096];
+        while let Ok(length @ 1..) = output.read(&mut bytes) {
+            if sender.send(bytes[..length].to_vec()).is_err() {
+                break;
+            }
+        }
+    });
+    pieces
 }
 
 /// An error that says what is wrong.
@@ -139,8 +196,12 @@ fn ended_well(child: &mut Child, output: &mut ChildStdout) -> io::Result<()> {
     if !more.is_empty() {
         return Err(failure("the program wrote more than was asked"));
     }
-    if !status.success() {
-        return Err(failure(format!("the program ended: {status}")));
+    well(status)
+}
+
+fn well(status: ExitStatus) -> io::Result<()> {
+    match status.success() {
+        true => Ok(()),
+        false => Err(failure(format!("the program ended: {status}"))),
     }
-    Ok(())
 }

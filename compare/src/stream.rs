@@ -99,6 +99,11 @@ fn answer(row: &Row, record: &[u8]) -> Vec<u8> {
     answer
 }
 
+/// The answer to a whole record, where its kind is known.
+pub fn answer_to(record: &[u8]) -> Option<Vec<u8>> {
+    Some(answer(row(*record.first()?)?, record))
+}
+
 /// Answers whole records from the front of the requests, while the answers have room.
 pub fn batch(requests: &[u8], answers: &mut [u8]) -> Report {
     let mut report = Report {
