@@ -1,6 +1,6 @@
 #!/bin/sh
 # install_test.sh: installs under a folder, moves it, and then uses what was installed as a stranger would: host/example.c by pkg-config, by
-# CMake and by nothing but its place; and the installed program on the stored streams.
+# CMake and by nothing but its place; and the installed programs on the stored streams and texts.
 set -eu
 cd "$(dirname "$0")/.."
 . host/compiler.sh
@@ -53,8 +53,13 @@ fi
 for requests in cases/*.requests; do
     (cd / && "$prefix/bin/answers") <"$requests" | cmp - "${requests%requests}answers" || die "the installed program differs on $requests"
 done
+for text in cases/*.text; do
+    (cd / && "$prefix/bin/lines") <"$text" | cmp - "${text%text}replies" || die "the installed program differs on $text"
+done
 ln -s "$prefix/bin/answers" "$work/link"
 "$work/link" <cases/cut.requests | cmp - cases/cut.answers || die "the installed program through a link"
-if "$prefix/bin/answers" word 2>"$work/said" </dev/null || ! grep -q '^usage: ' "$work/said"; then die "the installed program takes arguments"; fi
+for name in answers lines; do
+    if "$prefix/bin/$name" word 2>"$work/said" </dev/null || ! grep -q "^usage: $name " "$work/said"; then die "the installed $name takes arguments"; fi
+done
 
-echo "install: built and run by pkg-config, by CMake and by place; the installed program answers as stored"
+echo "install: built and run by pkg-config, by CMake and by place; the installed programs answer as stored"
