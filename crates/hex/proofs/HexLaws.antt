@@ -7,7 +7,7 @@ use native.Mathlib.Nat.{pow-suc, pow-succ', one-le-pow, mul-le-mul-right, mul-as
 use native.Mathlib.Omega.{arith}
 use lib.Arith.{digits-div, mod-mul}
 use lib.ListN.{length}
-use borrow.Author.Tests.{ltb-true, ltb-false, lt-ltb, le-ltb, le-leb}
+use borrow.Author.Tests.{ltb-true, ltb-false, leb-true, lt-ltb, le-ltb, le-leb, lt-leb}
 use Rattle.words.specs.Pick.{if_then_else_}
 use Rattle.words.specs.Tests.{_<?_, _≤?_}
 use Rattle.hex.specs.declared.Number.the-variants.{None, Is}
@@ -15,37 +15,37 @@ use Rattle.hex.specs.Hex.{charOf, digitOf, hex, allHex, value, numberS}
 
 -- ---- one digit
 -- the digits 0 to 9
-pub figure : (c : ℕ) → 48 ≤ c → c < 58 → digitOf c ≡ c - 48
+pub figure : (c : ℕ) → 48 ≤ c → c ≤ 57 → digitOf c ≡ c - 48
 unfolding digitOf
-figure c h l = rw (le-ltb c 48 h, lt-ltb c 58 l)
+figure c h l = rw (le-ltb c 48 h, le-leb c 57 l)
 
 -- the digits a to f
-pub letter : (c : ℕ) → 97 ≤ c → c < 103 → digitOf c ≡ c - 87
+pub letter : (c : ℕ) → 97 ≤ c → c ≤ 102 → digitOf c ≡ c - 97 + 10
 unfolding digitOf
-letter c h l = rw (le-ltb c 48 (omega arith), le-ltb c 58 (omega arith), le-ltb c 97 h, lt-ltb c 103 l)
+letter c h l = rw (le-ltb c 48 (omega arith), lt-leb c 57 (omega arith), le-ltb c 97 h, le-leb c 102 l)
 
 -- a digit is read back from its character
 digit-char : (d : ℕ) → d < 16 → digitOf (charOf d) ≡ d
 unfolding charOf
 digit-char d h = by (d <? 10) refl
   where
-    by : (b : Bool) → d <? 10 ≡ b → digitOf (if b then 48 + d else 87 + d) ≡ d
+    by : (b : Bool) → d <? 10 ≡ b → digitOf (if b then 48 + d else 97 + (d - 10)) ≡ d
     by true e = figure (48 + d) (omega arith) (omega (arith, ltb-true)) ∙ omega arith
-    by false e = letter (87 + d) (omega (arith, ltb-false)) (omega arith) ∙ omega arith
+    by false e = letter (97 + (d - 10)) (omega arith) (omega arith) ∙ omega (arith, ltb-false)
 
 -- and a character from its digit
 char-digit : (c : ℕ) → digitOf c < 16 → charOf (digitOf c) ≡ c
 unfolding charOf digitOf
-char-digit c = by (c <? 48) (c <? 58) (c <? 97) (c <? 103) refl refl refl refl
+char-digit c = by (c <? 48) (c ≤? 57) (c <? 97) (c ≤? 102) refl refl refl refl
   where
     read : Bool → Bool → Bool → Bool → ℕ
-    read s t u v = if s then 16 else if t then c - 48 else if u then 16 else if v then c - 87 else 16
+    read s t u v = if s then 16 else if t then c - 48 else if u then 16 else if v then c - 97 + 10 else 16
 
-    by : (s t u v : Bool) → c <? 48 ≡ s → c <? 58 ≡ t → c <? 97 ≡ u → c <? 103 ≡ v → read s t u v < 16 → charOf (read s t u v) ≡ c
+    by : (s t u v : Bool) → c <? 48 ≡ s → c ≤? 57 ≡ t → c <? 97 ≡ u → c ≤? 102 ≡ v → read s t u v < 16 → charOf (read s t u v) ≡ c
     by true t u v es et eu ev h = absurd (omega arith)
-    by false true u v es et eu ev h = rw (lt-ltb (c - 48) 10 (omega (arith, ltb-true, ltb-false))) (omega (arith, ltb-false))
+    by false true u v es et eu ev h = rw (lt-ltb (c - 48) 10 (omega (arith, leb-true, ltb-false))) (omega (arith, ltb-false))
     by false false true v es et eu ev h = absurd (omega arith)
-    by false false false true es et eu ev h = rw (le-ltb (c - 87) 10 (omega (arith, ltb-false))) (omega (arith, ltb-false))
+    by false false false true es et eu ev h = rw (le-ltb (c - 97 + 10) 10 (omega arith)) (omega (arith, ltb-false))
     by false false false false es et eu ev h = absurd (omega arith)
 
 -- ---- the digits of a number
@@ -74,7 +74,7 @@ unfolding hex charOf
 hex-from zero x = tt
 hex-from (suc w) x = (by (x / 16 ^ w % 16 <? 10) _, hex-from w x)
   where
-    by : (b : Bool) (d : ℕ) → 48 ≤ (if b then 48 + d else 87 + d)
+    by : (b : Bool) (d : ℕ) → 48 ≤ (if b then 48 + d else 97 + (d - 10))
     by true d = omega arith
     by false d = omega arith
 

@@ -1,5 +1,6 @@
 -- Numbers in lower-case hex, the highest digit first.
 use Prim.Native.Nat.{ℕ, zero, suc, _+_, _-_, _*_, _^_, _/_, _%_}
+use Prim.Native.Char.{code}
 use mathlib.Core.Bool.{Bool, true, false}
 use mathlib.Core.List.{List, [], _∷_}
 use lib.ListN.{length}
@@ -10,15 +11,15 @@ use Rattle.hex.specs.declared.Number.the-variants.{None, Is}
 
 -- the character of a digit: 0 to 9, a to f
 unfoldable pub charOf : ℕ → ℕ
-charOf d = if d <? 10 then 48 + d else 87 + d
+charOf d = if d <? 10 then code "0" + d else code "a" + (d - 10)
 
 -- the digit that a character is, 16 where it is none
 unfoldable pub digitOf : ℕ → ℕ
 digitOf c =
-    if c <? 48 then 16 else
-    if c <? 58 then c - 48 else
-    if c <? 97 then 16 else
-    if c <? 103 then c - 87 else
+    if c <? code "0" then 16 else
+    if c ≤? code "9" then c - code "0" else
+    if c <? code "a" then 16 else
+    if c ≤? code "f" then c - code "a" + 10 else
     16
 
 -- the w lowest digits of x

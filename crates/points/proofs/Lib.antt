@@ -1,2 +1,3 @@
--- Points: the whole table
+-- Points: the whole table. Typed: a text and its replies.
 pub mod Points
+pub mod Typed

@@ -10,5 +10,6 @@ pub mod TripLaws
 pub mod HeadLaws
 pub mod RowLaws
 pub mod PlaceLaws
--- Unique: what the contracts of the trips determine.
+-- Unique: what the contracts of the trips determine. Cases: examples.
 pub mod Unique
+pub mod Cases

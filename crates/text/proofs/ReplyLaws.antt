@@ -24,10 +24,11 @@ use Rattle.records.specs.declared.Reply.{Reply}
 use Rattle.records.proofs.RunLaws.{sound, by-took, by-refused}
 use Rattle.records.proofs.SplitLaws.{ahead-stop}
 use Rattle.records.proofs.StepLaws.{choose-whole}
+use Rattle.text.specs.Quoted.{ascii}
 use Rattle.text.specs.Names.{names}
-use Rattle.text.specs.Line.{SPACE, asked}
+use Rattle.text.specs.Line.{asked}
 use Rattle.text.specs.Text.{NEWLINE, lines, closed}
-use Rattle.text.specs.Reply.{BAD, signChar, signText, shown, replyOf, replyTo, repliesTo}
+use Rattle.text.specs.Reply.{BAD, signText, shown, replyOf, replyTo, repliesTo}
 use Rattle.text.specs.Trip.{recordOf}
 use Rattle.text.specs.declared.Asked.the-variants.{Bad, Ask}
 use Rattle.text.proofs.TextLaws.{Free, AllFree, free-append, lines-text, lines-free}
@@ -79,7 +80,7 @@ from-free n (c ∷ s) h f = (λ e. omega (arith, f .0), from-free n s h (f .1))
 sign-free : (r : Reply) → Free (signText r)
 sign-free r = by-more (eqb (r .more) 0) (eqb (r .extra) 1)
   where
-    by-more : (t u : Bool) → Free (pick t [] (SPACE ∷ (pick u 43 45 ∷ [])))
+    by-more : (t u : Bool) → Free (pick t [] (pick u (ascii " +") (ascii " -")))
     by-more true u = tt
     by-more false true = (λ e. omega arith, (λ e. omega arith, tt))
     by-more false false = (λ e. omega arith, (λ e. omega arith, tt))
@@ -115,11 +116,12 @@ abbrev pub Narrow : List Row → Type 0
 Narrow T = (k b : ℕ) → rowIn T k .reply b .width ≤ 8
 
 sign-short : (r : Reply) → length (signText r) ≤ 2
-sign-short r = by-more (eqb (r .more) 0)
+sign-short r = by-more (eqb (r .more) 0) (eqb (r .extra) 1)
   where
-    by-more : (t : Bool) → length (pick {A = List ℕ} t [] (SPACE ∷ (signChar (r .extra) ∷ []))) ≤ 2
-    by-more true = omega arith
-    by-more false = omega arith
+    by-more : (t u : Bool) → length (pick {A = List ℕ} t [] (pick u (ascii " +") (ascii " -"))) ≤ 2
+    by-more true u = omega arith
+    by-more false true = omega arith
+    by-more false false = omega arith
 
 -- a reply and its newline take at most four times the bytes of the line, if it has one, and of its newline
 pub reply-light : (T : List Row) → Narrow T → (s : List ℕ) → (length (closed (replyTo T s)) ≤ 4 * (length s + 1)) × (0 < length s → length (closed (replyTo T s)) ≤ 4 * length s)

@@ -1,4 +1,5 @@
 -- What requests as text are. Read in this order, behind hex/specs, kinds/specs, records/specs and session/specs.
+pub mod Quoted
 pub mod Names
 pub mod Line
 pub mod Text

@@ -1,5 +1,6 @@
 -- A line, without its newline, over any table of names: what it asks for, and the line that asks for it.
 use Prim.Native.Nat.{ℕ, _*_}
+use Prim.Native.Char.{code}
 use mathlib.Core.Bool.{Bool, true, false}
 use mathlib.Core.List.{List, [], _∷_, _++_}
 use lib.ListN.{length, drop}
@@ -14,7 +15,7 @@ use Rattle.text.specs.declared.Asked.{Asked}
 use Rattle.text.specs.declared.Asked.the-variants.{Bad, Ask}
 
 abbrev pub SPACE : ℕ
-SPACE = 32
+SPACE = code " "
 
 -- a name and a space
 abbrev pub headOf : Name → List ℕ

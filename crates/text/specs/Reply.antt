@@ -6,23 +6,19 @@ use Rattle.words.specs.Tests.{_=?_}
 use Rattle.hex.specs.Hex.{hex}
 use Rattle.records.specs.Row.{Row, rowIn}
 use Rattle.records.specs.declared.Reply.{Reply}
+use Rattle.text.specs.Quoted.{ascii}
 use Rattle.text.specs.Names.{names}
 use Rattle.text.specs.Line.{SPACE, asked}
 use Rattle.text.specs.Text.{lines, textOf}
 use Rattle.text.specs.declared.Asked.{Asked}
 use Rattle.text.specs.declared.Asked.the-variants.{Bad, Ask}
 
--- bad
 abbrev pub BAD : List ℕ
-BAD = 98 ∷ 97 ∷ 100 ∷ []
+BAD = ascii "bad"
 
--- + for the sign byte 1, - for any other
-abbrev pub signChar : ℕ → ℕ
-signChar b = if b =? 1 then 43 else 45
-
--- behind an answer's value a space and its sign, where it has one
+-- behind an answer's value its sign, where it has one: + for the sign byte 1, - for any other
 abbrev pub signText : Reply → List ℕ
-signText r = if r .more =? 0 then [] else SPACE ∷ (signChar (r .extra) ∷ [])
+signText r = if r .more =? 0 then [] else (if r .extra =? 1 then ascii " +" else ascii " -")
 
 -- an answer as text: a space, the value's bits in hex, two digits a byte, and the sign
 unfoldable pub shown : Reply → List ℕ

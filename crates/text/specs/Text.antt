@@ -1,11 +1,12 @@
 -- A text: lines, each with a newline behind it. A last line without its newline counts if it has a byte.
 use Prim.Native.Nat.{ℕ}
+use Prim.Native.Char.{code}
 use mathlib.Core.List.{List, [], _∷_, _++_}
 use Rattle.words.specs.Pick.{if_then_else_}
 use Rattle.words.specs.Tests.{_=?_}
 
 abbrev pub NEWLINE : ℕ
-NEWLINE = 10
+NEWLINE = code "\n"
 
 -- a byte at the front of the first line
 abbrev pub onto : ℕ → List (List ℕ) → List (List ℕ)

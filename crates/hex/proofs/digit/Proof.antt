@@ -2,7 +2,7 @@
 use mathlib.Core.Path.{sym}
 use native.Mathlib.Omega.{arith}
 use borrow.Author.Needs.{needs}
-use borrow.Author.Tests.{lt-ltb, le-ltb}
+use borrow.Author.Tests.{lt-ltb, le-ltb, lt-leb}
 use Rattle.hex.specs.Hex.{digitOf}
 use Rattle.hex.proofs.HexLaws.{figure, letter}
 use Rattle.hex.proofs.digit.Statement.{statement}
@@ -20,7 +20,7 @@ returns-2 c = sym (figure _ (c .before .if1 .left) (omega arith))
 
 returns-3 : tie.Need-returns-3
 unfolding digitOf
-returns-3 c = let x = c .before .before .before .args .c in rw (le-ltb x 48 (omega arith), le-ltb x 58 (omega arith), lt-ltb x 97 (omega arith))
+returns-3 c = let x = c .before .before .before .args .c in rw (le-ltb x 48 (omega arith), lt-leb x 57 (omega arith), lt-ltb x 97 (omega arith))
 
 cast-result-2 : tie.Need-cast-result-2
 cast-result-2 c = search needs
@@ -33,7 +33,7 @@ returns-4 c = omega (arith, letter (c .before .before .before .before .args .c) 
 
 returns-5 : tie.Need-returns-5
 unfolding digitOf
-returns-5 c = let x = c .before .before .before .before .args .c in rw (le-ltb x 48 (omega arith), le-ltb x 58 (omega arith), le-ltb x 97 (omega arith), le-ltb x 103 (omega arith))
+returns-5 c = let x = c .before .before .before .before .args .c in rw (le-ltb x 48 (omega arith), lt-leb x 57 (omega arith), le-ltb x 97 (omega arith), lt-leb x 102 (omega arith))
 
 pub digit-spec : {M : Type 1} → statement M
 digit-spec =
