@@ -10,7 +10,8 @@ use Rattle.replies.proofs.TableLaws.{row-width, reply-length}
 use Rattle.text.specs.Names.{names}
 use Rattle.text.specs.Line.{asked}
 use Rattle.text.specs.declared.Asked.the-variants.{Ask}
-use Rattle.text.proofs.ReplyLaws.{Shown, same-answer}
+use Rattle.text.specs.Promises.{Shown}
+use Rattle.text.proofs.Promised.{same-answer}
 
 pub shown-as-answered : (s : List ℕ) (k b room : ℕ) → asked names s ≡ Ask k b → answerLength (shapeOf k) ≤ room → Shown table s k b room
 shown-as-answered s k b room e h = same-answer table row-width s k b room e (omega (arith, reply-length k b))

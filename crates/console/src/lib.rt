@@ -9,6 +9,7 @@ use decide::Next;
 use decide::after;
 use decide::at_end;
 use port::read;
+use records::DONE;
 use relay::answer;
 ghost use Prim.Native.Nat.{_*_, _≤_, _<_};
 ghost use lib.ListN.{length, take};
@@ -16,10 +17,8 @@ ghost use Rattle.session.specs.Post.{Passed, Ran};
 ghost use Rattle.replies.specs.Table.{table};
 ghost use Rattle.text.specs.Typing.{typing};
 
-// The code of a turn: no line stops the program.
-const DONE: u8 = 0;
-
-// One turn: reads once behind the `have` bytes that are there, answers the lines, and says what comes next.
+// One turn: reads once behind the `have` bytes that are there, answers the lines, and says what comes next. Its code is 0: no line stops the
+// program.
 fn pass(buf: &mut [u8], have: usize, replies: &mut [u8]) -> Next
     requires { ⌜ (have < length (now buf)) × ((4 * length (now buf) ≤ length (now replies)) × (length (now replies) ≤ 65536)) ⌝ }
     ensures { λ r. ⌜ Passed (typing table) (length (now (buf .entry))) (take have (now (buf .entry))) r (now (buf .exit)) ⌝ }

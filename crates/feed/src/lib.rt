@@ -3,10 +3,10 @@
 use digits::get;
 use digits::put;
 use kinds::body;
-use stream::CUT;
-use stream::DONE;
-use stream::FULL;
-use stream::UNKNOWN;
+use records::CUT;
+use records::DONE;
+use records::FULL;
+use records::UNKNOWN;
 use stream::batch;
 ghost use Prim.Native.Nat.{_+_, _%_, _≤_, _<_};
 ghost use mathlib.Core.Path.{_≡_};

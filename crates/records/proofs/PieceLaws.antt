@@ -7,13 +7,10 @@ use native.Mathlib.Omega.{arith}
 use lib.ListN.{length, drop, length-append, length-drop}
 use Rattle.records.specs.Row.{Row}
 use Rattle.records.specs.Run.{Out, ahead, run}
+use Rattle.records.specs.Pieces.{whole}
 use Rattle.records.proofs.RunLaws.{run-within}
 use Rattle.records.proofs.SplitLaws.{run-more}
 use Rattle.records.proofs.RoomLaws.{Light, run-easy, run-same}
-
-abbrev pub whole : List (List ℕ) → List ℕ
-whole [] = []
-whole (p ∷ ps) = p ++ whole ps
 
 -- a batch with so much room on what is left and each piece in turn, and on what is left at the end
 abbrev pub pieces : List Row → ℕ → List ℕ → List (List ℕ) → Out

@@ -5,3 +5,4 @@ pub mod Codes
 pub mod Tally
 pub mod Run
 pub mod Did
+pub mod Pieces

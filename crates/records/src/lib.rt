@@ -44,6 +44,15 @@ pub struct Report {
     pub tally: Tally,
 }
 
+// Why a run stopped: what was to be read is used up; a kind that is in no row; an incomplete body; no room for what is to be written.
+pub const DONE: u8 = 0;
+
+pub const UNKNOWN: u8 = 1;
+
+pub const CUT: u8 = 2;
+
+pub const FULL: u8 = 3;
+
 // Nothing done, for the reason of a code.
 pub fn stopped(code: u8) -> Report
     ensures { λ r. ⌜ r ≡ record { code = code; tally = nothing } ⌝ }
@@ -54,6 +63,20 @@ pub fn stopped(code: u8) -> Report
             records: 0,
             read: 0,
             written: 0,
+        },
+    }
+}
+
+// One record or line: so many bytes read, and so many written.
+pub fn took(read: usize, written: usize) -> Report
+    ensures { λ r. ⌜ r ≡ record { code = 0; tally = record { records = 1; read = read; written = written } } ⌝ }
+{
+    Report {
+        code: DONE,
+        tally: Tally {
+            records: 1,
+            read,
+            written,
         },
     }
 }

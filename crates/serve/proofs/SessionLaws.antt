@@ -12,16 +12,17 @@ use lib.ListN.{length, length-append, length-drop}
 use Rattle.replies.specs.Table.{table}
 use Rattle.records.specs.Run.{Out, ahead, run}
 use Rattle.stream.proofs.BatchLaws.{table-light, enough-room, batch-same, batches-are-whole}
-use Rattle.records.proofs.PieceLaws.{whole, pieces, Roomy}
+use Rattle.records.specs.Pieces.{whole}
+use Rattle.records.proofs.PieceLaws.{pieces, Roomy}
 use Rattle.records.proofs.RoomLaws.{run-easy}
 use Rattle.records.proofs.RunLaws.{run-within}
 use Rattle.records.proofs.SplitLaws.{run-more}
 use Rattle.records.proofs.StopLaws.{stays-unknown}
 use Rattle.decide.specs.Decide.{closingS}
 use Rattle.decide.proofs.DecideLaws.{closing-is}
-use Rattle.session.specs.Session.{Heard, brought, piece, Event, Said, session, Fits, delivered}
+use Rattle.session.specs.Session.{Heard, brought, piece, Event, Said, session, Fits, delivered, Some}
 use Rattle.session.specs.Post.{Served}
-use Rattle.session.proofs.SayLaws.{one-or, Some, input, Front, end-delivered, stop-came, more-came, front-of, ended}
+use Rattle.session.proofs.SayLaws.{one-or, input, Front, end-delivered, stop-came, more-came, front-of, ended}
 use Rattle.serve.specs.Session.{there, done, left, answering, closed}
 
 -- what a batch adds to what the later turns say, where it closes and where it goes on

@@ -24,11 +24,6 @@ one-or k = tested (eqb k 1) refl
     tested true e = inl (eqb-true k 1 e)
     tested false e = inr (eqb-false k 1 e)
 
--- no piece is empty: a read of no byte is the end
-abbrev pub Some : List (List ℕ) → Type 0
-Some [] = Unit
-Some (p ∷ ps) = (0 < length p) × Some ps
-
 -- the bytes that the reads brought
 abbrev pub input : List Event → List ℕ
 input [] = []

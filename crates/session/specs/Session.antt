@@ -1,7 +1,7 @@
 -- A program that reads, writes and goes on, as a definition over its decisions and all that the outside does. Over any program of that form.
 use mathlib.Core.Bool.{Bool, true}
 use mathlib.Core.List.{List, [], _∷_, _++_}
-use Prim.Native.Nat.{ℕ, _+_, _≤_}
+use Prim.Native.Nat.{ℕ, _+_, _≤_, _<_}
 use lib.IntN.{ℤ, pos, negsuc}
 use lib.ListN.{length}
 use Rattle.decide.specs.Decide.{afterS}
@@ -78,6 +78,16 @@ came p = record { heard = brought p; sent = true }
 abbrev pub delivered : List (List ℕ) → List Event
 delivered [] = came [] ∷ []
 delivered (p ∷ ps) = came p ∷ delivered ps
+
+-- The same before it has ended.
+abbrev pub arriving : List (List ℕ) → List Event
+arriving [] = []
+arriving (p ∷ ps) = came p ∷ arriving ps
+
+-- no piece is empty: a read of no byte is the end
+abbrev pub Some : List (List ℕ) → Type 0
+Some [] = Unit
+Some (p ∷ ps) = (0 < length p) × Some ps
 
 -- what is carried over and what a read brings are together of at most so many bytes
 abbrev pub Fits : Program → ℕ → List ℕ → List Event → Type 0

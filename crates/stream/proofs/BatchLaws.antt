@@ -17,7 +17,8 @@ use Rattle.replies.proofs.TableLaws.{row-width, width-small, reply-light, reply
 use Rattle.records.specs.Run.{run}
 use Rattle.records.proofs.RoomLaws.{Light, run-easy, run-same}
 use Rattle.records.proofs.StopLaws.{Narrow}
-use Rattle.records.proofs.PieceLaws.{whole, pieces, Roomy, pieces-are-whole}
+use Rattle.records.specs.Pieces.{whole}
+use Rattle.records.proofs.PieceLaws.{pieces, Roomy, pieces-are-whole}
 
 -- the reply to the body of a record, by the code's steps: how many bytes the body has, their number, and the reply to it
 pub answered : (s : List ℕ) (at w k b : ℕ) (r : Reply) → ((i : ℕ) → getD s i 0 < 256) → w ≡ shapeOf k .body → b ≡ word 8 (take w (drop at s)) → r ≡ replyS k b →

@@ -1,9 +1,14 @@
 // The request stream: a byte of kind and the argument's bits in, the answer's kind and the value's bits out, record by record.
 use digits::get;
 use kinds::body;
+use records::CUT;
+use records::DONE;
+use records::FULL;
 use records::Report;
 use records::Tally;
+use records::UNKNOWN;
 use records::stopped;
+use records::took;
 use records::write;
 use replies::reply_to;
 ghost use Prim.Native.Nat.{_+_, _-_, _≤_, _<_, _^_};
@@ -15,30 +20,6 @@ ghost use Rattle.records.specs.Run.{one};
 ghost use Rattle.records.specs.Did.{Did};
 ghost use Rattle.stream.specs.Batch.{batchS};
 ghost use Rattle.stream.specs.Post.{Rest, Front};
-
-// Why a batch stopped: the requests are used up; a kind that is not in the table; an incomplete body; an answer longer than the room left.
-pub const DONE: u8 = 0;
-
-pub const UNKNOWN: u8 = 1;
-
-pub const CUT: u8 = 2;
-
-pub const FULL: u8 = 3;
-
-// A record with a body of `width` bytes, answered by `written`.
-fn took(width: usize, written: usize) -> Report
-    requires { ⌜ 1 + width < 2 ^ 64 ⌝ }
-    ensures { λ r. ⌜ r ≡ record { code = 0; tally = record { records = 1; read = 1 + width; written = written } } ⌝ }
-{
-    Report {
-        code: DONE,
-        tally: Tally {
-            records: 1,
-            read: 1 + width,
-            written,
-        },
-    }
-}
 
 // The counts of one run and then of another.
 fn add(a: Tally, b: Tally) -> Tally
@@ -75,7 +56,7 @@ fn step(requests: &[u8], at: usize, answers: &mut [u8], out: usize) -> Report
         return stopped(FULL);
     }
     write(answers, out, r);
-    took(width, n)
+    took(1 + width, n)
 }
 
 // Reads whole records from the front of `requests` and writes their answers to the front of `answers`, until one of the four codes.

@@ -6,6 +6,8 @@ pub mod ReplyLaws
 -- TypingLaws: the program over all that the outside does. TripLaws: text to requests and back.
 pub mod TypingLaws
 pub mod TripLaws
+-- Promised: what specs/Promises states.
+pub mod Promised
 -- HeadLaws, RowLaws, PlaceLaws: the tests, the rows of the table and the places in a buffer as the code has them.
 pub mod HeadLaws
 pub mod RowLaws

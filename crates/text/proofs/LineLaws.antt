@@ -23,13 +23,9 @@ use Rattle.kinds.proofs.ShapeLaws.{body-small}
 use Rattle.text.specs.Names.{Name, names}
 use Rattle.text.specs.Line.{headOf, digitsOf, begins, askOf, askedBy, askedAs, orElse, asked, lineOf}
 use Rattle.text.specs.Trip.{bodyIn}
+use Rattle.text.specs.Promises.{In, Says, SaysGood, LineBack, OneLine, LineAsks}
 use Rattle.text.specs.declared.Asked.{Asked}
 use Rattle.text.specs.declared.Asked.the-variants.{Bad, Ask}
-
--- a name of a table
-abbrev pub In : Name → List Name → Type 0
-In n [] = ⊥
-In n (m ∷ ms) = (n ≡ m) ⊎ In n ms
 
 -- a test that passes at each name of a table
 abbrev pub all : (Name → Bool) → List Name → Bool
@@ -43,12 +39,6 @@ all-at f (m ∷ ms) n t (inr i) = all-at f ms n (and-right (f m) (all f ms) t) i
 
 no-ask : {A : Type 0} (k b : ℕ) → Bad ≡ Ask k b → A
 no-ask k b e = let z : _≡_ {A = ℕ} 0 1 = cc in absurd (omega arith)
-
--- s is the line of name n: its head, and digits that make the bits b
-pub record Says (n : Name) (s : List ℕ) (k b : ℕ) : Type 0 where
-  pub kind : k ≡ n .kind
-  pub line : s ≡ headOf n ++ hex (digitsOf k) b
-  pub small : b < 16 ^ digitsOf k
 
 -- s is p and what stands behind it
 pub begins-split : (p s : List ℕ) → begins p s ≡ true → p ++ drop (length p) s ≡ s
@@ -131,17 +121,17 @@ names-distinct : T (distinct names)
 unfolding names
 names-distinct = tt
 
--- THE TRIP: the line of what a good line asks for is that line
-pub trip : (s : List ℕ) (k b : ℕ) → asked names s ≡ Ask k b → lineOf names k b ≡ s
-trip s k b e =
+-- the line of what a good line asks for is that line
+pub line-back : LineBack
+line-back s k b e =
     let g = good-says names s k b e in
     let n = g .0 in
     let y = g .1 .1 in
     ap (λ (j : ℕ). lineOf names j b) (y .kind) ∙ line-in names names-distinct n (g .1 .0) b ∙ ap (λ (j : ℕ). headOf n ++ hex (digitsOf j) b) (sym (y .kind)) ∙ sym (y .line)
 
 -- no two good lines ask for the same
-pub one-line : (s t : List ℕ) (k b : ℕ) → asked names s ≡ Ask k b → asked names t ≡ Ask k b → s ≡ t
-one-line s t k b e f = sym (trip s k b e) ∙ trip t k b f
+pub one-line : OneLine
+one-line s t k b e f = sym (line-back s k b e) ∙ line-back t k b f
 
 -- ---- and what it asks for
 
@@ -197,11 +187,11 @@ unfolding names
 names-unlike = tt
 
 -- what was written is asked for
-pub ask-line : (n : Name) → In n names → (b : ℕ) → b < 16 ^ digitsOf (n .kind) → asked names (lineOf names (n .kind) b) ≡ Ask (n .kind) b
-ask-line n i b h = ap (asked names) (line-in names names-distinct n i b) ∙ ask-in names names-unlike n i b h
+pub line-asks : LineAsks
+line-asks n i b h = ap (asked names) (line-in names names-distinct n i b) ∙ ask-in names names-unlike n i b h
 
--- WHAT A GOOD LINE IS: a name of the table, a space, and as many digits as its numbers have; and there is no other (good-says).
-pub says-good : (n : Name) (s : List ℕ) (k b : ℕ) → In n names → Says n s k b → asked names s ≡ Ask k b
+-- a line of a name is good, and there is no other (good-says)
+pub says-good : SaysGood
 says-good n s k b i y =
     let e = y .kind in
     ap (asked names) (y .line ∙ ap (λ (j : ℕ). headOf n ++ hex (digitsOf j) b) e)

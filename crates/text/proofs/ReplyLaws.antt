@@ -1,5 +1,5 @@
 -- Laws of the replies to lines and texts, over any table of kinds. Assumes nothing.
---     answered        Every line is answered by its reply or by bad, never both, never none.
+--     reply-or-bad    Every line is answered by its reply or by bad, never both, never none.
 --     reply-lines     The lines of the replies are the replies to the lines, so there are as many (as-many).
 --     same-answer     The reply to a good line shows the answer that a run gives to its request.
 use mathlib.Core.Path.{_≡_, refl, sym, ap, _∙_, subst}
@@ -30,6 +30,7 @@ use Rattle.text.specs.Line.{asked}
 use Rattle.text.specs.Text.{NEWLINE, lines, closed}
 use Rattle.text.specs.Reply.{BAD, signText, shown, replyOf, replyTo, repliesTo}
 use Rattle.text.specs.Trip.{recordOf}
+use Rattle.text.specs.Promises.{ReplyOrBad, SameAnswer}
 use Rattle.text.specs.declared.Asked.the-variants.{Bad, Ask}
 use Rattle.text.proofs.TextLaws.{Free, AllFree, free-append, lines-text, lines-free}
 use Rattle.text.proofs.LineLaws.{bad-or-ask, good-length, ask-small, ask-body}
@@ -49,21 +50,8 @@ never-both T s k b e f =
     let n : length (s ++ x) ≡ 3 = ap length (sym (reply-ask T s k b e) ∙ f) in
     omega (arith, n, length-append s x, good-length s k b e .0)
 
--- A line that is answered by its reply: what it asks for, and the line with the answer of its kind's row.
-pub record Answered (T : List Row) (s : List ℕ) : Type 0 where
-  pub kind : ℕ
-  pub bits : ℕ
-  pub asks : asked names s ≡ Ask kind bits
-  pub reply : replyTo T s ≡ s ++ shown (rowIn T kind .reply bits)
-  pub not-bad : replyTo T s ≡ BAD → ⊥
-
--- A line that is answered by bad.
-pub record Refused (T : List Row) (s : List ℕ) : Type 0 where
-  pub asks : asked names s ≡ Bad
-  pub reply : replyTo T s ≡ BAD
-
-pub answered : (T : List Row) (s : List ℕ) → Refused T s ⊎ Answered T s
-answered T s =
+pub reply-or-bad : (T : List Row) → ReplyOrBad T
+reply-or-bad T s =
     ⊎-elim (λ e. inl (record { asks = e; reply = reply-bad T s e }))
     (λ g.
     let k = g .0 in
@@ -144,15 +132,8 @@ reply-light T h s = ⊎-elim
 
 -- ---- the same answer as the record's
 
--- One reply r, which the line shows, and which a run over the line's request writes.
-pub record Shown (T : List Row) (s : List ℕ) (k b room : ℕ) : Type 0 where
-  pub reply : Reply
-  pub line : replyTo T s ≡ s ++ shown reply
-  pub answer : run T (recordOf k b) room ≡ record { code = 0; tally = record { records = 1; read = length (recordOf k b); written = length (bytesOf reply) }; bytes = bytesOf reply }
-
 -- where the table's rows are as wide as the kinds' bodies, and there is room for the answer
-pub same-answer : (T : List Row) → ((k : ℕ) → rowIn T k .width ≡ shapeOf k .body) → (s : List ℕ) (k b room : ℕ) → asked names s ≡ Ask k b →
-    length (bytesOf (rowIn T k .reply b)) ≤ room → Shown T s k b room
+pub same-answer : (T : List Row) → SameAnswer T
 unfolding one
 same-answer T w s k b room e h =
     let n = shapeOf k .body in

@@ -8,6 +8,7 @@ use borrow.Author.Tests.{eqb-true, eqb-false, eq-eqb, ne-eqb}
 use lib.Dec.{eqb}
 use lib.ListN.{take}
 use Rattle.text.specs.Text.{NEWLINE, onto, lines, closed, textOf, Cut, before, cut}
+use Rattle.text.specs.Promises.{supplied, ended}
 
 -- no newline among these bytes
 abbrev pub Free : List ℕ → Type 0
@@ -195,11 +196,7 @@ lines-free s = subst AllFree (sym (lines-cut s)) (both (cut s .whole) (cut s .re
     both (l ∷ a) r f g = (f .0, both a r (f .1) g)
 
 -- THE TEXT OF ITS LINES: a text that ends with a newline is the text of its lines, and to any other the missing newline is supplied.
-abbrev pub supplied : List ℕ → List ℕ
-supplied [] = []
-supplied (c ∷ l) = NEWLINE ∷ []
-
-pub text-lines : (s : List ℕ) → textOf (lines s) ≡ s ++ supplied (cut s .rest)
+pub text-lines : (s : List ℕ) → textOf (lines s) ≡ ended s
 unfolding textOf
 text-lines s =
     ap textOf (lines-cut s) ∙ text-append (cut s .whole) (lastLine (cut s .rest))

@@ -28,12 +28,13 @@ use Rattle.records.proofs.SplitLaws.{ahead-assoc, ahead-none, ahead-stop}
 use Rattle.records.proofs.StepLaws.{choose-whole}
 use Rattle.text.specs.Names.{Name, names}
 use Rattle.text.specs.Line.{asked, lineOf}
-use Rattle.text.specs.Text.{NEWLINE, onto, lines, closed, textOf, cut}
+use Rattle.text.specs.Text.{NEWLINE, onto, lines, closed, textOf}
 use Rattle.text.specs.Trip.{recordOf, firstLine, asRequest, toRequest, forth, bodyIn, toLine, back}
+use Rattle.text.specs.Promises.{Good, requestOf, requestsOf, turned, ended, ForthGood, ForthBad, ThereAndBack, OneText}
 use Rattle.text.specs.declared.Asked.{Asked}
 use Rattle.text.specs.declared.Asked.the-variants.{Bad, Ask}
-use Rattle.text.proofs.TextLaws.{supplied, text-lines}
-use Rattle.text.proofs.LineLaws.{bad-or-ask, trip, ask-small, ask-body}
+use Rattle.text.proofs.TextLaws.{text-lines}
+use Rattle.text.proofs.LineLaws.{bad-or-ask, line-back, ask-small, ask-body}
 use Rattle.text.proofs.PlaceLaws.{length-record, as-whole}
 
 -- ---- the steps
@@ -81,28 +82,10 @@ lines-none [] e = refl
 lines-none (c ∷ s) e = let n = ap length (sym (lines-first c s) ∙ e) in absurd (omega (arith, n))
 
 -- ---- what lines ask for
--- lines that are all good
-abbrev pub Good : List (List ℕ) → Type 0
-Good [] = Unit
-Good (l ∷ ls) = (asked names l ≡ Bad → ⊥) × Good ls
-
 asks : (l : List ℕ) → (asked names l ≡ Bad → ⊥) → (k : ℕ) × ((b : ℕ) × (asked names l ≡ Ask k b))
 asks l h = ⊎-elim (λ e. absurd (h e)) (λ g. g) (bad-or-ask names l)
 
--- the requests of lines in their order; a bad line has none
-abbrev pub requestOf : Asked → List ℕ
-requestOf Bad = []
-requestOf (Ask k b) = recordOf k b
-
-abbrev pub requestsOf : List (List ℕ) → List ℕ
-requestsOf [] = []
-requestsOf (l ∷ ls) = requestOf (asked names l) ++ requestsOf ls
-
 -- ---- text to requests
--- these lines turned into their requests, of so many bytes, and then a code
-abbrev pub turned : ℕ → ℕ → List (List ℕ) → Out
-turned c read ls = record { code = c; tally = record { records = length ls; read = read; written = length (requestsOf ls) }; bytes = requestsOf ls }
-
 turn : (c : ℕ) (s : List ℕ) (room k b : ℕ) → asked names (firstLine (c ∷ s)) ≡ Ask k b → length (recordOf k b) ≤ room →
     forth names (c ∷ s) room ≡ ahead (took (past c s) (recordOf k b)) (forth names (drop (1 + past c s) (c ∷ s)) (room - length (recordOf k b)))
 unfolding toRequest
@@ -161,7 +144,7 @@ front (l ∷ a) (c ∷ s) more room e g h =
           ∙ ap (λ (n : ℕ). ahead all (forth names (drop (1 + m + i .read) (c ∷ s)) n)) r;
     }
 
-pub forth-good : (s : List ℕ) (room : ℕ) → Good (lines s) → length (requestsOf (lines s)) ≤ room → forth names s room ≡ turned DONE (length s) (lines s)
+pub forth-good : ForthGood
 unfolding toRequest
 forth-good s room g h =
     let ls = lines s in
@@ -182,8 +165,7 @@ refused (c ∷ s) room l b e z =
     let el : firstLine (c ∷ s) ≡ l = cc in
     by-refused (toRequest names) (request-lawful names) (c ∷ s) room UNKNOWN (ap (asRequest (past c s) room) (ap (asked names) el ∙ z))
 
-pub forth-bad : (s : List ℕ) (room : ℕ) (a : List (List ℕ)) (l : List ℕ) (b : List (List ℕ)) → lines s ≡ a ++ (l ∷ b) → Good a → asked names l ≡ Bad → length (requestsOf a) ≤ room →
-    (read : ℕ) × ((forth names s room ≡ turned UNKNOWN read a) × (lines (drop read s) ≡ l ∷ b))
+pub forth-bad : ForthBad
 forth-bad s room a l b e g z h =
     let f = front a s (l ∷ b) room e g h in
     let all = turned DONE (f .read) a in
@@ -204,7 +186,7 @@ line-of l k b room r e h =
     let n = length-append (digits w b) r in
     let d = length-digits w b in
     ap (λ (v : ℕ). choose v (length s) room (closed (lineOf names k (word v s)))) (y .0)
-    ∙ ap (λ (x : List ℕ). choose w (length s) room (closed x)) (ap (lineOf names k) (word-digits w b r (ask-small l k b e)) ∙ trip l k b e)
+    ∙ ap (λ (x : List ℕ). choose w (length s) room (closed x)) (ap (lineOf names k) (word-digits w b r (ask-small l k b e)) ∙ line-back l k b e)
     ∙ choose-whole w (length s) room (closed l) (omega (arith, y .1)) (omega arith) h
 
 pub back-good : (ls : List (List ℕ)) (room : ℕ) → Good ls → length (textOf ls) ≤ room → back names (requestsOf ls) room ≡ restored ls
@@ -229,16 +211,14 @@ back-good (l ∷ ls) room g h =
     ∙ ap (ahead (took w (closed l))) (back-good ls (room - length (closed l)) (g .1) (omega (arith, h, v)))
     ∙ (λ i. record { code = DONE; tally = record { records = n i; read = e i; written = v i }; bytes = closed l ++ textOf ls })
 
-pub there-and-back : (s : List ℕ) (room large : ℕ) → Good (lines s) → length (requestsOf (lines s)) ≤ room → length (s ++ supplied (cut s .rest)) ≤ large →
-    (back names (forth names s room .bytes) large .code ≡ DONE) × (back names (forth names s room .bytes) large .bytes ≡ s ++ supplied (cut s .rest))
+pub there-and-back : ThereAndBack
 there-and-back s room large g h m =
     let e : back names (forth names s room .bytes) large ≡ restored (lines s) =
     ap (λ (o : Out). back names (o .bytes) large) (forth-good s room g h) ∙ back-good (lines s) large g (subst (λ (x : List ℕ). length x ≤ large) (sym (text-lines s)) m) in
     (ap (λ (o : Out). o .code) e, ap (λ (o : Out). o .bytes) e ∙ text-lines s)
 
 -- so no two texts of good lines have the same requests, but for a last newline
-pub one-text : (s t : List ℕ) (room : ℕ) → Good (lines s) → Good (lines t) → length (requestsOf (lines s)) ≤ room → length (requestsOf (lines t)) ≤ room →
-    forth names s room .bytes ≡ forth names t room .bytes → s ++ supplied (cut s .rest) ≡ t ++ supplied (cut t .rest)
+pub one-text : OneText
 one-text s t room g k h i e =
-    let large = length (s ++ supplied (cut s .rest)) + length (t ++ supplied (cut t .rest)) in
+    let large = length (ended s) + length (ended t) in
     sym (there-and-back s room large g h (omega arith) .1) ∙ ap (λ (x : List ℕ). back names x large .bytes) e ∙ there-and-back t room large k i (omega arith) .1

@@ -15,13 +15,13 @@ use lib.Dec.{ltb}
 use lib.ListN.{length, take, length-append}
 use lib.Seq.{take-all, take-append-le, length-take-le}
 use Rattle.records.specs.Row.{Row}
-use Rattle.records.proofs.PieceLaws.{whole}
-use Rattle.session.specs.Session.{Heard, brought, failed, piece, Event, Turn, turnOf, Said, session, came, delivered}
-use Rattle.session.specs.Post.{Ran}
-use Rattle.session.proofs.SayLaws.{Some, Front, end-delivered, more-came, front-end, front-of, coded}
+use Rattle.records.specs.Pieces.{whole}
+use Rattle.session.specs.Session.{Heard, brought, failed, piece, Event, Turn, turnOf, Said, session, came, delivered, arriving, Some}
+use Rattle.session.proofs.SayLaws.{Front, end-delivered, more-came, front-end, front-of, coded}
 use Rattle.text.specs.Text.{lines, textOf, Cut, cut}
 use Rattle.text.specs.Reply.{replyTo, repliesTo}
 use Rattle.text.specs.Typing.{KEPT, turnOn, ends, typing}
+use Rattle.text.specs.Promises.{typedOf, typed, CutsDoNotShow, AtOnce, BrokenIsFront, GivesBack}
 use Rattle.text.proofs.TextLaws.{Free, free-take, text-append, rest-free, graft, cut-front, cut-free, cut-append, lastLine, lines-cut}
 use Rattle.text.proofs.LineLaws.{long-bad}
 use Rattle.text.proofs.ReplyLaws.{reply-bad}
@@ -138,15 +138,10 @@ module _ (T : List Row) where
       ∙ ap (λ (x : Said). record { bytes = said (cut (u ++ p)) ++ x .bytes; code = x .code }) (by-pieces v ps (rest-free (u ++ p)) (s .1))
       ∙ ap (λ (x : List ℕ). record { bytes = x; code = 0 }) (sym (replies-append (u ++ p) (whole ps)) ∙ ap (repliesTo T) (append-assoc u p (whole ps)))
 
-  pub cuts-do-not-show : (ps : List (List ℕ)) → Some ps → session (typing T) [] (delivered ps) ≡ record { bytes = repliesTo T (whole ps); code = 0 }
+  pub cuts-do-not-show : CutsDoNotShow T
   cuts-do-not-show ps s = by-pieces [] ps tt s
 
   -- ---- before the input ends
-
-  -- pieces that come, where no read and no write fails, and the input does not end
-  abbrev pub arriving : List (List ℕ) → List Event
-  arriving [] = []
-  arriving (p ∷ ps) = came p ∷ arriving ps
 
   so-far : (u : List ℕ) (ps : List (List ℕ)) → Free u → Some ps → session (typing T) (take KEPT u) (arriving ps) .bytes ≡ said (cut (u ++ whole ps))
   unfolding session textOf
@@ -159,20 +154,10 @@ module _ (T : List Row) where
       ∙ sym (ap textOf (map-append (replyTo T) (cut (u ++ p) .whole) (k .whole)) ∙ text-append (map (replyTo T) (cut (u ++ p) .whole)) (map (replyTo T) (k .whole)))
       ∙ sym (ap said (ap cut (sym (append-assoc u p (whole ps))) ∙ cut-append (u ++ p) (whole ps)))
 
-  pub at-once : (ps : List (List ℕ)) → Some ps → session (typing T) [] (arriving ps) .bytes ≡ textOf (map (replyTo T) (cut (whole ps) .whole))
+  pub at-once : AtOnce T
   at-once ps s = so-far [] ps tt s
 
   -- ---- where something fails
-
-  -- what was read before the input ended
-  abbrev pub typedOf : Heard → List ℕ → List ℕ
-  typedOf failed later = later
-  typedOf (brought []) later = []
-  typedOf (brought (c ∷ p)) later = (c ∷ p) ++ later
-
-  abbrev pub typed : List Event → List ℕ
-  typed [] = []
-  typed (e ∷ es) = typedOf (e .heard) (typed es)
 
   -- a turn over u and the bytes p, and what should be said behind it
   front-more : (u p : List ℕ) (h : Heard) (sent : Bool) (es : List Event) → Free u → piece h ≡ p → ends h ≡ false →
@@ -199,7 +184,7 @@ module _ (T : List Row) where
       by-heard later (brought []) = front-end (typing T) (take KEPT u) (e .sent) es _ (λ z. omega arith) (sym (same-all u [] f))
       by-heard later (brought (c ∷ p)) = front-more u (c ∷ p) (brought (c ∷ p)) (e .sent) es f refl refl later
 
-  pub broken-is-front : (es : List Event) → session (typing T) [] es .code ≡ 255 → (tail : List ℕ) × (repliesTo T (typed es) ≡ session (typing T) [] es .bytes ++ tail)
+  pub broken-is-front : BrokenIsFront T
   broken-is-front es z = fronts [] es tt z
 
   -- no turn stops it, and it gives back 0, or 255
@@ -207,7 +192,7 @@ module _ (T : List Row) where
   code-zero true s = refl
   code-zero false s = refl
 
-  pub gives-back : (size r : ℕ) → Ran (typing T) size r → (r ≡ 0) ⊎ (r ≡ 255)
+  pub gives-back : GivesBack T
   gives-back size r n =
       subst (λ (c : ℕ). (c ≡ 0) ⊎ (c ≡ 255)) (sym (n .code))
       (coded (typing T) size (λ c. (c ≡ 0) ⊎ (c ≡ 255)) (inr refl) (λ rest e h. inl (code-zero (ends (e .heard)) (rest ++ piece (e .heard)))) [] (n .events) (n .fits))

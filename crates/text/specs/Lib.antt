@@ -6,4 +6,5 @@ pub mod Text
 pub mod Reply
 pub mod Trip
 pub mod Typing
+pub mod Promises
 pub mod Rows

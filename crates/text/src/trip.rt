@@ -7,9 +7,14 @@ use crate::names::name_of;
 use crate::put_all;
 use digits::get;
 use kinds::body;
+use records::CUT;
+use records::DONE;
+use records::FULL;
 use records::Report;
 use records::Tally;
+use records::UNKNOWN;
 use records::stopped;
+use records::took;
 ghost use mathlib.Core.Path.{_≡_};
 ghost use Prim.Native.Nat.{_+_, _-_, _*_, _≤_, _<_};
 ghost use mathlib.Core.List.{_++_};
@@ -20,29 +25,6 @@ ghost use Rattle.hex.specs.Hex.{hex};
 ghost use Rattle.text.specs.Names.{names};
 ghost use Rattle.text.specs.Text.{closed};
 ghost use Rattle.text.specs.Trip.{recordOf, firstLine, toRequest, forth, toLine, back};
-
-// Why a run stopped, as in the batch.
-const DONE: u8 = 0;
-
-const UNKNOWN: u8 = 1;
-
-const CUT: u8 = 2;
-
-const FULL: u8 = 3;
-
-// One line or record: so many bytes read, and so many written.
-fn took(read: usize, written: usize) -> Report
-    ensures { λ r. ⌜ r ≡ record { code = 0; tally = record { records = 1; read = read; written = written } } ⌝ }
-{
-    Report {
-        code: DONE,
-        tally: Tally {
-            records: 1,
-            read,
-            written,
-        },
-    }
-}
 
 // Where the line from `at` on ends: the place of its newline, or the end of the text.
 fn line_end(text: &[u8], at: usize) -> usize

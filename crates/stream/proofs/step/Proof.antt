@@ -128,6 +128,9 @@ returns-4 c =
 write-requires : tie.Need-write-requires
 write-requires c κs = search needs
 
+add-took : tie.Need-add-took
+add-took c = search needs
+
 took-requires : tie.Need-took-requires
 took-requires c κs = search needs
 
@@ -166,6 +169,7 @@ step-spec =
     stopped-requires-4
     returns-4
     write-requires
+    add-took
     took-requires
     same-length
     returns-5)
