@@ -1,15 +1,12 @@
 -- A turn: what the read brought stands behind the bytes that were carried over, and it was the end of the input where it brought none. Assumes
 -- nothing.
-use mathlib.Core.Path.{_≡_, refl, sym, ap, _∙_, subst}
-use mathlib.Core.Bool.{Bool, true, false}
-use mathlib.Core.List.{List, [], _∷_, _++_}
-use Prim.Native.Nat.{ℕ, suc, _+_, _≤_}
+use mathlib.Core.Path.{_≡_, sym, ap, _∙_, subst}
+use mathlib.Core.Bool.{Bool}
+use mathlib.Core.List.{List, _++_}
+use Prim.Native.Nat.{ℕ, _+_, _≤_}
 use native.Mathlib.Omega.{arith}
-use borrow.Author.Tests.{ne-eqb}
-use lib.Dec.{eqb}
-use lib.IntN.{ℤ, pos, negsuc}
-use lib.ListN.{length, take, length-take}
-use lib.Seq.{length-take-le}
+use lib.IntN.{ℤ}
+use lib.ListN.{length, take}
 use mir.Syntax.{w64}
 use mir.Val.{toZ, ofZ, SFits}
 use mir.ValLaws.{toZ-ofZ}
@@ -19,24 +16,14 @@ use Rattle.replies.specs.Table.{table}
 use Rattle.decide.specs.Decide.{afterS, atEndS}
 use Rattle.decide.specs.declared.Next.{Next}
 use Rattle.decide.specs.declared.Next.the-variants.{Go}
-use Rattle.session.specs.Session.{brought, piece}
+use Rattle.session.specs.Session.{answered, piece}
 use Rattle.session.specs.Post.{Passed}
-use Rattle.session.proofs.ReadLaws.{heardOf, full, part, behind, behind-passed}
+use Rattle.session.proofs.ReadLaws.{heardOf, answered-is, full, part, behind, behind-passed}
 use Rattle.session.proofs.LoopLaws.{kept-is}
-use Rattle.text.specs.Text.{cut}
-use Rattle.text.specs.Typing.{KEPT, turnOn, ends, typing}
-use Rattle.text.proofs.TypingLaws.{code-zero}
+use Rattle.text.specs.Typing.{KEPT, turnOn, typing}
+use Rattle.text.proofs.TypingLaws.{code-zero, carries-little}
 use Rattle.console.specs.Post.{Turned}
 use Rattle.console.specs.declared.relay.Round.{Round}
-
--- the end of the input, by the bytes that were brought
-none-ends : (p : List ℕ) → eqb (length p) 0 ≡ ends (brought p)
-none-ends [] = refl
-none-ends (c ∷ p) = ne-eqb (suc (length p)) 0 (λ e. omega arith)
-
-end-is : (got : ℤ) (ys : List ℕ) → Moved (length ys) got → atEndS got ≡ ends (heardOf got ys)
-end-is (pos k) ys m = ap (λ (n : ℕ). eqb n 0) (sym (length-take-le k ys m)) ∙ none-ends (take k ys)
-end-is (negsuc k) ys m = refl
 
 module _ (have n : ℕ) (first ys b : List ℕ) (got : ℤ) (ended : Bool) (r : Round) (x : Next) where
   pub turn-passed : have ≤ length first → SFits w64 got → length ys ≡ length (part have first) → Moved (length (part have first)) got →
@@ -45,19 +32,15 @@ module _ (have n : ℕ) (first ys b : List ℕ) (got : ℤ) (ended : Bool) (r : 
       Passed (typing table) (length first) (take have first) x b
   turn-passed h f same m en ee t ex =
       let k : Moved (length ys) got = subst (λ (k : ℕ). Moved k got) (sym same) m in
-      let e : ended ≡ ends (heardOf got ys) = ee ∙ ap atEndS (toZ-ofZ w64 got f) ∙ end-is got ys k in
-      let u : Turned (turnOn table (ends (heardOf got ys)) (take have first ++ piece (heardOf got ys))) r b =
-      subst (λ (y : List ℕ). Turned (turnOn table (ends (heardOf got ys)) y) r b) (behind have n first ys got h f same m en)
+      let e : ended ≡ atEndS (answered (heardOf got ys)) = ee ∙ ap atEndS (toZ-ofZ w64 got f ∙ sym (answered-is got ys k)) in
+      let u : Turned (turnOn table (atEndS (answered (heardOf got ys))) (take have first ++ piece (heardOf got ys))) r b =
+      subst (λ (y : List ℕ). Turned (turnOn table (atEndS (answered (heardOf got ys))) y) r b) (behind have n first ys got h f same m en)
       (subst (λ (y : Bool). Turned (turnOn table y (take (have + n) (full have first ys))) r b) e t) in
       behind-passed have n first ys got h f same m en (typing table) x b 0 (r .kept) (r .sent)
-      (sym (code-zero table (ends (heardOf got ys)) (take have first ++ piece (heardOf got ys)))) (u .kept) (u .rest) ex
+      (sym (code-zero table (atEndS (answered (heardOf got ys))) (take have first ++ piece (heardOf got ys)))) (u .kept) (u .rest) ex
 
 -- what is carried over is at most 26 bytes
-left-small : (b : Bool) (s : List ℕ) → length (turnOn table b s .left) ≤ KEPT
-left-small true s = omega arith
-left-small false s = let l = length-take KEPT (cut s .rest) in omega arith
-
 pub kept-small : (size : ℕ) (rest : List ℕ) (x : Next) (b : List ℕ) → Passed (typing table) size rest x b → (kept : ℕ) → x ≡ Go kept → kept ≤ KEPT
 kept-small size rest x b p kept e =
     let k = kept-is (typing table) size rest x b p kept e in
-    omega (arith, k .0, left-small (ends (p .event .heard)) (rest ++ piece (p .event .heard)))
+    omega (arith, k .0, carries-little table rest (p .event .heard))

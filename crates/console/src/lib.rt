@@ -15,7 +15,7 @@ ghost use Prim.Native.Nat.{_*_, _≤_, _<_};
 ghost use lib.ListN.{length, take};
 ghost use Rattle.session.specs.Post.{Passed, Ran};
 ghost use Rattle.replies.specs.Table.{table};
-ghost use Rattle.text.specs.Typing.{typing};
+ghost use Rattle.text.specs.Typing.{KEPT, typing};
 
 // One turn: reads once behind the `have` bytes that are there, answers the lines, and says what comes next. Its code is 0: no line stops the
 // program.
@@ -32,7 +32,7 @@ fn pass(buf: &mut [u8], have: usize, replies: &mut [u8]) -> Next
 // All turns, and 0 at the end of the input, or 255 where the input or the output failed. Nothing says that the input ends, so the turns are
 // counted down, from a number that no run uses up.
 fn turns(buf: &mut [u8], replies: &mut [u8]) -> u8
-    requires { ⌜ (26 < length (now buf)) × ((4 * length (now buf) ≤ length (now replies)) × (length (now replies) ≤ 65536)) ⌝ }
+    requires { ⌜ (KEPT < length (now buf)) × ((4 * length (now buf) ≤ length (now replies)) × (length (now replies) ≤ 65536)) ⌝ }
     ensures { λ r. ⌜ Ran (typing table) (length (now (buf .entry))) r ⌝ }
 {
     let mut have = 0;

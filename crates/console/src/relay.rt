@@ -30,7 +30,8 @@ pub(crate) struct Done {
     pub(crate) written: usize,
 }
 
-// Writes an answer as text and a newline from `at` on, and gives the place behind them.
+// Writes an answer as text and a newline from `at` on, and gives the place behind them. `at` is in a buffer of 65,536 bytes at most, behind a good
+// line, of 25 at most.
 fn put_answer(out: &mut [u8], at: usize, r: Reply) -> usize
     requires { ⌜ (at ≤ 65561) × (r .width ≤ 8) ⌝ }
     ensures { λ n. ⌜ Wrote (closed (shown r)) at n (now (out .entry)) (now (out .exit)) ⌝ }

@@ -1,7 +1,8 @@
 -- Laws of the decisions. Assumes nothing.
-use mathlib.Core.Path.{_≡_, refl, sym, ap}
+use mathlib.Core.Path.{_≡_, refl, sym, ap, _∙_}
 use mathlib.Core.Bool.{Bool, true, false}
 use mathlib.Core.List.{List, [], _∷_}
+use mathlib.Core.Logic.{_⊎_, inl, inr}
 use Prim.Native.Nat.{ℕ, _≤_, _<_}
 use native.Mathlib.Omega.{arith}
 use borrow.Author.Tests.{eq-eqb, ne-eqb, eqb-true, eqb-false}
@@ -28,6 +29,15 @@ at-end code kept = tested (eqb code 1) refl
 pub at-more : (n code kept : ℕ) → (code ≡ 1 → ⊥) → 0 < n → afterS (pos n) code kept true ≡ Go kept
 unfolding afterS
 at-more n code kept e h = rw (ne-eqb code 1 e, ne-eqb n 0 (let q : n ≡ 0 → ⊥ = λ z. omega arith in q))
+
+-- where nothing failed, the program closes with the turn's code or goes on with what it left
+pub not-broken : (n code kept : ℕ) → (afterS (pos n) code kept true ≡ Close code) ⊎ (afterS (pos n) code kept true ≡ Go kept)
+not-broken n code kept = tested (eqb code 1) (eqb n 0) refl refl
+  where
+    tested : (s t : Bool) → eqb code 1 ≡ s → eqb n 0 ≡ t → (afterS (pos n) code kept true ≡ Close code) ⊎ (afterS (pos n) code kept true ≡ Go kept)
+    tested true t e f = inl (at-unknown n code kept (eqb-true code 1 e))
+    tested false true e f = inl (ap (λ (m : ℕ). afterS (pos m) code kept true) (eqb-true n 0 f) ∙ at-end code kept)
+    tested false false e f = inr (at-more n code kept (eqb-false code 1 e) (let q = eqb-false n 0 f in omega (arith, q)))
 
 -- where the program goes on, it keeps what the batch left, which did not stop at an unknown kind
 pub when-go : (got : ℤ) (code kept : ℕ) (sent : Bool) (k : ℕ) → afterS got code kept sent ≡ Go k → (k ≡ kept) × (code ≡ 1 → ⊥)

@@ -4,6 +4,7 @@ use mathlib.Core.Bool.{Bool, true, false, not}
 use Prim.Native.Nat.{ℕ}
 use native.Mathlib.Omega.{arith}
 use borrow.Author.Tests.{ltb-true, eq-eqb, ne-eqb}
+use lib.Dec.{eqb}
 use lib.IntN.{ℤ, pos, negsuc}
 use lib.Signed.{ltZ}
 use mir.Syntax.{w64}
@@ -51,10 +52,7 @@ module _ (code kept : ℕ) where
   goes-on (pos n) false e s h z = apart s
   goes-on (negsuc n) sent e s h z = apart e
 
--- the end of the input
-pub end-not : (got : ℤ) → (ofZ w64 got ≡ 0 → ⊥) → false ≡ atEndS got
-end-not (pos n) z = sym (ne-eqb n 0 z)
-end-not (negsuc n) z = refl
-
-pub end-so : (got : ℤ) → SFits w64 got → ofZ w64 got ≡ 0 → true ≡ atEndS got
-end-so got f z = ap atEndS (ap (toZ w64) (sym z) ∙ toZ-ofZ w64 got f)
+-- the end of the input: what is 0 on its bits is 0
+pub end-test : (got : ℤ) → SFits w64 got → eqb (ofZ w64 got) 0 ≡ atEndS got
+end-test (pos n) f = refl
+end-test (negsuc n) f = ne-eqb (ofZ w64 (negsuc n)) 0 (λ z. apart (ap atEndS (ap (toZ w64) (sym z) ∙ toZ-ofZ w64 (negsuc n) f)))

@@ -11,15 +11,15 @@ const UNKNOWN: u8 = 1;
 // In place of a stop code: the input or the output failed, and nothing closes the output.
 pub const BROKEN: u8 = 255;
 
-// What comes after a turn: another, with so many unread bytes carried over; the end, with a stop code; or the end without one.
+// What comes after a turn: another, with so many bytes carried over; the end, with a stop code; or the end without one.
 pub enum Next {
     Go(usize),
     Close(u8),
     Break,
 }
 
-// After a turn in which the read answered `got`, the batch stopped with `code` and left `kept` bytes unread, and the write took all that it
-// was handed, or not.
+// After a turn in which the read answered `got`, that had `code` and carries over `kept` bytes, and whose write took all that it was handed, or
+// not.
 pub fn after(got: isize, code: u8, kept: usize, sent: bool) -> Next
     ensures { λ r. ⌜ r ≡ afterS got code kept sent ⌝ }
 {
@@ -66,8 +66,5 @@ pub fn end(code: u8, sent: bool) -> u8
 pub fn at_end(got: isize) -> bool
     ensures { λ r. ⌜ r ≡ atEndS got ⌝ }
 {
-    if got != 0 {
-        return false;
-    }
-    true
+    got == 0
 }

@@ -2,8 +2,9 @@
 use mathlib.Core.Path.{_≡_, refl, sym, ap, _∙_}
 use mathlib.Core.List.{List, [], _∷_, _++_}
 use Prim.Native.Nat.{ℕ, zero, suc, _+_, _-_, _*_, _^_, _/_, _%_, _≤_, _<_}
-use native.Mathlib.Nat.{zero-add, suc-add, zero-mul, suc-mul, one-mul, pow-zero, pow-suc, pow-le-pow-right, mod-eq-of-lt, add-mul-mod-self-left}
+use native.Mathlib.Nat.{zero-add, suc-add, zero-mul, suc-mul, one-mul, pow-zero, pow-suc, pow-le-pow-right, one-le-pow, mod-eq-of-lt, add-mul-mod-self-left}
 use native.Mathlib.Omega.{arith}
+use lib.Arith.{mod-mul}
 use lib.Dec.{lit<}
 use lib.Pow.{pow-add, shl-exact}
 use lib.ListN.{length, take, drop, getD}
@@ -101,14 +102,16 @@ word-split (suc n) m s =
 pub word-mod : (n m : ℕ) (s : List ℕ) → ((i : ℕ) → getD s i 0 < 256) → word (n + m) s % 256 ^ n ≡ word n s
 word-mod n m s b = ap (λ (k : ℕ). k % 256 ^ n) (word-split n m s) ∙ add-mul-mod-self-left (word n s) (256 ^ n) (word m (drop n s)) ∙ mod-eq-of-lt (word-below n s b)
 
--- what is read back is what was written
-pub word-digits : (w x : ℕ) (t : List ℕ) → x < 256 ^ w → word w (digits w x ++ t) ≡ x
+-- what is read back is what was written, of a larger number its rest
+pub word-rest : (w x : ℕ) (t : List ℕ) → word w (digits w x ++ t) ≡ x % 256 ^ w
 unfolding word digits
-word-digits zero x t h = omega arith
-word-digits (suc w) x t h =
-    let p : 256 ^ suc w ≡ 256 ^ w * 256 = pow-suc 256 w in
-    let q : x / 256 < 256 ^ w = omega arith in
-    rw (word-digits w (x / 256) t q) (omega arith)
+word-rest zero x t = omega arith
+word-rest (suc w) x t =
+    let m : x % (256 ^ w * 256) ≡ x / 256 % 256 ^ w * 256 + x % 256 = mod-mul x (one-le-pow w 256 (omega arith)) (omega arith) in
+    rw (word-rest w (x / 256) t, pow-suc 256 w) (omega (arith, m))
+
+pub word-digits : (w x : ℕ) (t : List ℕ) → x < 256 ^ w → word w (digits w x ++ t) ≡ x
+word-digits w x t h = word-rest w x t ∙ mod-eq-of-lt h
 
 -- and what is written is what was read
 pub digits-word : (w : ℕ) (s : List ℕ) → w ≤ length s → ((i : ℕ) → getD s i 0 < 256) → digits w (word w s) ≡ take w s

@@ -87,10 +87,6 @@ value-mod (suc w) x =
     rw (digit-char (x / 16 ^ w % 16) d, length-hex w x, value-mod w x, pow-succ')
     (sym (mod-mul x (omega arith) (one-le-pow w 16 (omega arith))))
 
--- so a number that has no more than w digits is read back
-pub value-hex : (w x : ℕ) → x < 16 ^ w → value (hex w x) ≡ x
-value-hex w x h = value-mod w x ∙ mod-eq-of-lt h
-
 -- ---- the number of a text
 -- the first is a digit, and so are the rest
 all-cons : (c : ℕ) (s : List ℕ) → allHex (c ∷ s) ≡ true → (digitOf c < 16) × (allHex s ≡ true)
@@ -132,10 +128,13 @@ hex-value (c ∷ s) h =
     rw (digits-div (digitOf c) (value-small s (t .1)), mod-eq-of-lt (t .0), char-digit c (t .0), hex-low (length s) (digitOf c) (value s), hex-value s (t .1))
 
 -- ---- a text of at most 16 digits
--- what was written is read back
-pub number-hex : (w x : ℕ) → w ≤ 16 → x < 16 ^ w → numberS (hex w x) ≡ Is x
+-- what was written is read back, of a larger number its rest
+pub number-mod : (w x : ℕ) → w ≤ 16 → numberS (hex w x) ≡ Is (x % 16 ^ w)
 unfolding numberS
-number-hex w x h l = rw (length-hex w x, le-leb w 16 h, char-hex w x, value-hex w x l)
+number-mod w x h = rw (length-hex w x, le-leb w 16 h, char-hex w x, value-mod w x)
+
+pub number-hex : (w x : ℕ) → w ≤ 16 → x < 16 ^ w → numberS (hex w x) ≡ Is x
+number-hex w x h l = number-mod w x h ∙ ap Is (mod-eq-of-lt l)
 
 -- and what was read is written back
 pub hex-number : (s : List ℕ) (x : ℕ) → numberS s ≡ Is x → (hex (length s) x ≡ s) × (x < 16 ^ length s)

@@ -21,7 +21,7 @@ pub record Out : Type 0 where
 abbrev pub stop : ℕ → Out
 stop c = record { code = c; tally = nothing; bytes = [] }
 
--- a whole record with a body of w bytes, answered by x
+-- an item of 1 + w bytes, a record with a body of w or a line, for which x is written
 abbrev pub took : ℕ → List ℕ → Out
 took w x = record { code = DONE; tally = record { records = 1; read = 1 + w; written = length x }; bytes = x }
 
@@ -46,19 +46,19 @@ unfoldable pub one : List Row → List ℕ → ℕ → Out
 one T [] room = stop DONE
 one T (k ∷ s) room = known (rowIn T k) s room
 
--- a record and, where it was taken, the rest
+-- an item and, where it was taken, the rest
 abbrev pub next : ℕ → Out → Out → Out
 next zero o rest = o
 next (suc n) o rest = ahead o rest
 
--- at most n items, by a step that takes the first of them or stops
+-- at most n items (records, or lines), by a step that takes the first of them or stops
 unfoldable pub stepsBy : (List ℕ → ℕ → Out) → ℕ → List ℕ → ℕ → Out
 stepsBy S zero s room = stop DONE
 stepsBy S (suc n) s room =
     let o = S s room in
     next (o .tally .records) o (stepsBy S n (drop (o .tally .read) s) (room - o .tally .written))
 
--- all of them: each takes one byte at least
+-- all of them, by a step that takes a byte at least with each
 unfoldable pub runBy : (List ℕ → ℕ → Out) → List ℕ → ℕ → Out
 runBy S s room = stepsBy S (suc (length s)) s room
 

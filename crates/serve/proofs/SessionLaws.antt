@@ -22,7 +22,7 @@ use Rattle.decide.specs.Decide.{closingS}
 use Rattle.decide.proofs.DecideLaws.{closing-is}
 use Rattle.session.specs.Session.{Heard, brought, piece, Event, Said, session, Fits, delivered, Some}
 use Rattle.session.specs.Post.{Served}
-use Rattle.session.proofs.SayLaws.{one-or, input, Front, end-delivered, stop-came, more-came, front-of, ended}
+use Rattle.session.proofs.SayLaws.{one-or, input, Front, end-came, stop-came, more-came, front-of, ended}
 use Rattle.serve.specs.Session.{there, done, left, answering, closed}
 
 -- what a batch adds to what the later turns say, where it closes and where it goes on
@@ -55,7 +55,7 @@ module _ (size room : ℕ) (h : 2 * size ≤ room) where
   by-pieces : (rest : List ℕ) (ps : List (List ℕ)) → Some ps → Fits (answering room) size rest (delivered ps) →
       session (answering room) rest (delivered ps) ≡ closed (pieces table room rest ps)
   by-pieces rest [] s f =
-      end-delivered (answering room) rest ∙ closes (done room rest (brought [])) (small rest (brought []) (f .0))
+      end-came (answering room) rest [] ∙ closes (done room rest (brought [])) (small rest (brought []) (f .0))
       ∙ ap (λ (x : List ℕ). closed (run table x room)) (append-nil rest)
   by-pieces rest (p ∷ ps) s f =
       let o = done room rest (brought p) in

@@ -23,7 +23,7 @@ abbrev pub heardOf : ℤ → List ℕ → Heard
 heardOf (pos k) ys = brought (take k ys)
 heardOf (negsuc k) ys = failed
 
-answered-is : (got : ℤ) (ys : List ℕ) → Moved (length ys) got → answered (heardOf got ys) ≡ got
+pub answered-is : (got : ℤ) (ys : List ℕ) → Moved (length ys) got → answered (heardOf got ys) ≡ got
 answered-is (pos k) ys m = ap pos (length-take-le k ys m)
 answered-is (negsuc k) ys m = ap negsuc (sym m)
 

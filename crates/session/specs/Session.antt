@@ -1,6 +1,7 @@
 -- A program that reads, writes and goes on, as a definition over its decisions and all that the outside does. Over any program of that form.
-use mathlib.Core.Bool.{Bool, true}
+use mathlib.Core.Bool.{Bool, true, false}
 use mathlib.Core.List.{List, [], _∷_, _++_}
+use mathlib.Core.Logic.{_⊎_}
 use Prim.Native.Nat.{ℕ, _+_, _≤_, _<_}
 use lib.IntN.{ℤ, pos, negsuc}
 use lib.ListN.{length}
@@ -88,6 +89,16 @@ arriving (p ∷ ps) = came p ∷ arriving ps
 abbrev pub Some : List (List ℕ) → Type 0
 Some [] = Unit
 Some (p ∷ ps) = (0 < length p) × Some ps
+
+-- a read or a write fails in one of these events
+abbrev pub FailsIn : Heard → Bool → Type 0
+FailsIn failed sent = Unit
+FailsIn (brought p) true = ⊥
+FailsIn (brought p) false = Unit
+
+abbrev pub Failing : List Event → Type 0
+Failing [] = ⊥
+Failing (e ∷ es) = FailsIn (e .heard) (e .sent) ⊎ Failing es
 
 -- what is carried over and what a read brings are together of at most so many bytes
 abbrev pub Fits : Program → ℕ → List ℕ → List Event → Type 0

@@ -3,7 +3,7 @@ use mathlib.Core.Path.{_≡_, refl, sym, ap, _∙_, subst}
 use mathlib.Core.Bool.{Bool, true, false, not, _&&_}
 use mathlib.Core.List.{List, [], _∷_, _++_}
 use mathlib.Core.Logic.{_⊎_, inl, inr, ⊎-elim}
-use Prim.Native.Nat.{ℕ, _+_, _^_, _≤_, _<_}
+use Prim.Native.Nat.{ℕ, _+_, _*_, _^_, _≤_, _<_}
 use native.Mathlib.Nat.{mul-comm}
 use native.Mathlib.Omega.{arith}
 use borrow.Author.Tests.{eqb-true, eq-eqb, ne-eqb}
@@ -51,6 +51,10 @@ begins-split (a ∷ p) (b ∷ s) e = by-test (λ h. begins-split p s h) (eqb b a
     by-test rest true q h = ap (λ (x : List ℕ). a ∷ x) (rest h) ∙ ap (λ (x : ℕ). x ∷ s) (sym (eqb-true b a q))
     by-test rest false q h = let z : _≡_ {A = ℕ} 0 1 = cc in absurd (omega arith)
 
+-- two digits a byte
+pub two-a-byte : (w : ℕ) → 16 ^ (2 * w) ≡ 256 ^ w
+two-a-byte w = ap (λ (j : ℕ). 16 ^ j) (mul-comm 2 w) ∙ pow-mul 16 2 w
+
 -- what digits say that ask for something
 digits-say : (k j b : ℕ) (d : List ℕ) → askedBy j d ≡ Ask k b → (k ≡ j) × ((d ≡ hex (digitsOf j) b) × (b < 16 ^ digitsOf j))
 digits-say k j b d = by-length (eqb (length d) (digitsOf j)) refl
@@ -78,7 +82,7 @@ as-says n s k b = by-head (begins (headOf n) s) refl
         record {
           kind = d .0;
           line = sym (begins-split (headOf n) s q) ∙ ap (λ (x : List ℕ). headOf n ++ x) (d .1 .0) ∙ ap (λ (j : ℕ). headOf n ++ hex (digitsOf j) b) (sym (d .0));
-          small = subst (λ (j : ℕ). b < 16 ^ digitsOf j) (sym (d .0)) (d .1 .1);
+          small = subst (λ (j : ℕ). b < 256 ^ (shapeOf j .body)) (sym (d .0)) (subst (λ (m : ℕ). b < m) (two-a-byte (shapeOf (n .kind) .body)) (d .1 .1));
         }
     by-head false q e = no-ask k b e
 
@@ -162,13 +166,14 @@ unlike [] = true
 unlike (n ∷ ns) = all (λ m. differs (headOf n) (headOf m)) ns && unlike ns
 
 -- digits that were written ask for their number
-digits-ask : (k b : ℕ) → b < 16 ^ digitsOf k → askedBy k (hex (digitsOf k) b) ≡ Ask k b
+digits-ask : (k b : ℕ) → b < 256 ^ (shapeOf k .body) → askedBy k (hex (digitsOf k) b) ≡ Ask k b
 digits-ask k b h =
     let w : digitsOf k ≤ 16 = omega (arith, body-small k) in
-    rw (eq-eqb (length (hex (digitsOf k) b)) (digitsOf k) (length-hex (digitsOf k) b), number-hex (digitsOf k) b w h)
+    let l : b < 16 ^ digitsOf k = subst (λ (m : ℕ). b < m) (sym (two-a-byte (shapeOf k .body))) h in
+    rw (eq-eqb (length (hex (digitsOf k) b)) (digitsOf k) (length-hex (digitsOf k) b), number-hex (digitsOf k) b w l)
 
 -- a name's own line asks its kind
-pub ask-in : (N : List Name) → T (unlike N) → (n : Name) → In n N → (b : ℕ) → b < 16 ^ digitsOf (n .kind) → asked N (headOf n ++ hex (digitsOf (n .kind)) b) ≡ Ask (n .kind) b
+pub ask-in : (N : List Name) → T (unlike N) → (n : Name) → In n N → (b : ℕ) → b < 256 ^ (shapeOf (n .kind) .body) → asked N (headOf n ++ hex (digitsOf (n .kind)) b) ≡ Ask (n .kind) b
 unfolding asked askedAs
 ask-in [] t n i b h = absurd i
 ask-in (m ∷ ms) t n (inl e) b h =
@@ -195,19 +200,19 @@ pub says-good : SaysGood
 says-good n s k b i y =
     let e = y .kind in
     ap (asked names) (y .line ∙ ap (λ (j : ℕ). headOf n ++ hex (digitsOf j) b) e)
-    ∙ ask-in names names-unlike n i b (subst (λ (j : ℕ). b < 16 ^ digitsOf j) e (y .small)) ∙ ap (λ (j : ℕ). Ask j b) (sym e)
+    ∙ ask-in names names-unlike n i b (subst (λ (j : ℕ). b < 256 ^ (shapeOf j .body)) e (y .small)) ∙ ap (λ (j : ℕ). Ask j b) (sym e)
 
 -- ---- sizes, each by one test of the names
 
--- a good line has from 9 to 25 bytes
-pub good-length : (s : List ℕ) (k b : ℕ) → asked names s ≡ Ask k b → (8 < length s) × (length s ≤ 25)
+-- a good line has from 13 to 25 bytes
+pub good-length : (s : List ℕ) (k b : ℕ) → asked names s ≡ Ask k b → (12 < length s) × (length s ≤ 25)
 unfolding names shapes shapeIn
 good-length s k b e =
     let g = good-says names s k b e in
     let n = g .0 in
     let y = g .1 .1 in
     let size = length (headOf n) + digitsOf (n .kind) in
-    let low : 9 ≤ size = leb→le 9 size (all-at (λ n. leb 9 (length (headOf n) + digitsOf (n .kind))) names n tt (g .1 .0)) in
+    let low : 13 ≤ size = leb→le 13 size (all-at (λ n. leb 13 (length (headOf n) + digitsOf (n .kind))) names n tt (g .1 .0)) in
     let high : size ≤ 25 = leb→le size 25 (all-at (λ n. leb (length (headOf n) + digitsOf (n .kind)) 25) names n tt (g .1 .0)) in
     let l = ap length (y .line) ∙ length-append (headOf n) (hex (digitsOf k) b) in
     let w = length-hex (digitsOf k) b in
@@ -216,9 +221,7 @@ good-length s k b e =
 
 -- what a good line asks for fits the body of its request, which has a byte
 pub ask-small : (s : List ℕ) (k b : ℕ) → asked names s ≡ Ask k b → b < 256 ^ (shapeOf k .body)
-ask-small s k b e =
-    let y = good-says names s k b e .1 .1 in
-    subst (λ (m : ℕ). b < m) (ap (λ (j : ℕ). 16 ^ j) (mul-comm 2 (shapeOf k .body)) ∙ pow-mul 16 2 (shapeOf k .body)) (y .small)
+ask-small s k b e = good-says names s k b e .1 .1 .small
 
 body-some : (n : Name) → In n names → 0 < shapeOf (n .kind) .body
 unfolding names shapes shapeIn
@@ -234,10 +237,16 @@ body-named (m ∷ ms) n (inr i) = by-test (eqb (n .kind) (m .kind)) (body-named 
     by-test true h = refl
     by-test false h = h
 
+pub body-of : (n : Name) (k : ℕ) → In n names → k ≡ n .kind → (bodyIn names k ≡ shapeOf k .body) × (0 < shapeOf k .body)
+body-of n k i e = subst (λ (j : ℕ). (bodyIn names j ≡ shapeOf j .body) × (0 < shapeOf j .body)) (sym e) (body-named names n i, body-some n i)
+
+pub body-none : (N : List Name) (k : ℕ) → ((n : Name) → In n N → k ≡ n .kind → ⊥) → bodyIn N k ≡ 0
+unfolding bodyIn
+body-none [] k h = refl
+body-none (n ∷ ns) k h = rw (ne-eqb k (n .kind) (h n (inl refl))) (body-none ns k (λ m i. h m (inr i)))
+
 pub ask-body : (s : List ℕ) (k b : ℕ) → asked names s ≡ Ask k b → (bodyIn names k ≡ shapeOf k .body) × (0 < shapeOf k .body)
-ask-body s k b e =
-    let g = good-says names s k b e in
-    subst (λ (j : ℕ). (bodyIn names j ≡ shapeOf j .body) × (0 < shapeOf j .body)) (sym (g .1 .1 .kind)) (body-named names (g .0) (g .1 .0), body-some (g .0) (g .1 .0))
+ask-body s k b e = let g = good-says names s k b e in body-of (g .0) k (g .1 .0) (g .1 .1 .kind)
 
 -- every line asks for something or is bad
 pub bad-or-ask : (N : List Name) (s : List ℕ) → (asked N s ≡ Bad) ⊎ ((k : ℕ) × ((b : ℕ) × (asked N s ≡ Ask k b)))

@@ -2,7 +2,7 @@
 use mathlib.Core.List.{List}
 use Rattle.records.specs.Row.{Row}
 use Rattle.text.specs.Names.{names}
-use Rattle.text.specs.Promises.{GoodSays, SaysGood, LineBack, OneLine, LineAsks, ForthGood, ForthBad, ThereAndBack, OneText, ReplyOrBad, ReplyLines, SameAnswer, CutsDoNotShow, AtOnce, BrokenIsFront, GivesBack}
+use Rattle.text.specs.Promises.{GoodSays, SaysGood, LineBack, OneLine, LineAsks, ForthGood, ForthBad, ForthFull, ThereAndBack, BackStops, OneText, ReplyOrBad, ReplyLines, SameAnswer, ShowsValue, ShowsSign, CutsDoNotShow, AtOnce, BrokenIsFront, GivesBack, ZeroIsAll, BreaksByFailure, CarriesLittle}
 use Rattle.text.proofs.LineLaws as line
 use Rattle.text.proofs.TripLaws as text
 use Rattle.text.proofs.ReplyLaws as reply
@@ -29,11 +29,23 @@ forth-good = text.forth-good
 pub forth-bad : ForthBad
 forth-bad = text.forth-bad
 
+pub forth-full : ForthFull
+forth-full = text.forth-full
+
 pub there-and-back : ThereAndBack
 there-and-back = text.there-and-back
 
+pub back-stops : BackStops
+back-stops = text.back-stops
+
 pub one-text : OneText
 one-text = text.one-text
+
+pub shows-value : ShowsValue
+shows-value = reply.shows-value
+
+pub shows-sign : ShowsSign
+shows-sign = reply.shows-sign
 
 module _ (T : List Row) where
   pub reply-or-bad : ReplyOrBad T
@@ -56,3 +68,12 @@ module _ (T : List Row) where
 
   pub gives-back : GivesBack T
   gives-back = program.gives-back T
+
+  pub zero-is-all : ZeroIsAll T
+  zero-is-all = program.zero-is-all T
+
+  pub fails-alone : BreaksByFailure T
+  fails-alone = program.fails-alone T
+
+  pub carries-little : CarriesLittle T
+  carries-little = program.carries-little T

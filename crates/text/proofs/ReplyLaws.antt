@@ -1,20 +1,24 @@
 -- Laws of the replies to lines and texts, over any table of kinds. Assumes nothing.
 --     reply-or-bad    Every line is answered by its reply or by bad, never both, never none.
 --     reply-lines     The lines of the replies are the replies to the lines, so there are as many (as-many).
+--     shows-value, shows-sign  What an answer as text shows is found again in it.
 --     same-answer     The reply to a good line shows the answer that a run gives to its request.
 use mathlib.Core.Path.{_≡_, refl, sym, ap, _∙_, subst}
 use mathlib.Core.Bool.{Bool, true, false}
 use mathlib.Core.List.{List, [], _∷_, _++_, map, append-nil}
 use mathlib.Core.Logic.{_⊎_, inl, inr, ⊎-elim}
-use Prim.Native.Nat.{ℕ, _+_, _-_, _*_, _≤_, _<_}
+use Prim.Native.Nat.{ℕ, _+_, _-_, _*_, _%_, _≤_, _<_}
 use native.Mathlib.Omega.{arith}
+use borrow.Author.Tests.{eq-eqb, ne-eqb}
 use lib.Dec.{eqb}
 use lib.ListN.{length, drop, length-append, length-map, drop-of-length-le}
+use lib.Seq.{take-at, drop-at}
 use Rattle.words.specs.Pick.{pick}
-use Rattle.hex.specs.Hex.{hex}
-use Rattle.hex.proofs.HexLaws.{length-hex, From, hex-from}
+use Rattle.hex.specs.Hex.{hex, numberS}
+use Rattle.hex.specs.declared.Number.the-variants.{Is}
+use Rattle.hex.proofs.HexLaws.{length-hex, number-mod, From, hex-from}
 use Rattle.digits.specs.Digits.{digits, word}
-use Rattle.digits.proofs.DigitLaws.{length-digits, word-digits}
+use Rattle.digits.proofs.DigitLaws.{length-digits, word-rest, word-digits}
 use Rattle.kinds.specs.Kinds.{shapeOf}
 use Rattle.records.specs.Reply.{bytesOf}
 use Rattle.records.specs.Row.{Row, rowIn}
@@ -26,14 +30,14 @@ use Rattle.records.proofs.SplitLaws.{ahead-stop}
 use Rattle.records.proofs.StepLaws.{choose-whole}
 use Rattle.text.specs.Quoted.{ascii}
 use Rattle.text.specs.Names.{names}
-use Rattle.text.specs.Line.{asked}
+use Rattle.text.specs.Line.{SPACE, asked}
 use Rattle.text.specs.Text.{NEWLINE, lines, closed}
 use Rattle.text.specs.Reply.{BAD, signText, shown, replyOf, replyTo, repliesTo}
 use Rattle.text.specs.Trip.{recordOf}
-use Rattle.text.specs.Promises.{ReplyOrBad, SameAnswer}
+use Rattle.text.specs.Promises.{ReplyOrBad, SameAnswer, ShowsValue, ShowsSign}
 use Rattle.text.specs.declared.Asked.the-variants.{Bad, Ask}
 use Rattle.text.proofs.TextLaws.{Free, AllFree, free-append, lines-text, lines-free}
-use Rattle.text.proofs.LineLaws.{bad-or-ask, good-length, ask-small, ask-body}
+use Rattle.text.proofs.LineLaws.{two-a-byte, bad-or-ask, good-length, ask-small, ask-body}
 
 pub reply-bad : (T : List Row) (s : List ℕ) → asked names s ≡ Bad → replyTo T s ≡ BAD
 unfolding replyTo
@@ -157,3 +161,30 @@ same-answer T w s k b room e h =
           by-took (one T) (sound T) (recordOf k b) room n (bytesOf r) o ∙ ap (ahead (took n (bytesOf r))) t ∙ ahead-stop (took n (bytesOf r)) DONE
           ∙ ap (λ (m : ℕ). record { code = DONE; tally = record { records = 1; read = m; written = length (bytesOf r) }; bytes = bytesOf r }) u;
     }
+
+-- ---- what an answer as text shows
+
+-- the digits of its value say what its bytes make
+pub shows-value : ShowsValue
+unfolding shown bytesOf
+shows-value r h =
+    let w = r .width in
+    let b = r .bits in
+    let x = hex (2 * w) b in
+    let d = digits w b in
+    ap numberS (take-at x (signText r) (2 * w) (length-hex (2 * w) b))
+    ∙ number-mod (2 * w) b (omega arith)
+    ∙ ap (λ (m : ℕ). Is (b % m)) (two-a-byte w)
+    ∙ sym (ap Is (word-rest w b (digits (r .more) (r .extra))))
+
+sign-at : (r : Reply) → drop (1 + 2 * r .width) (shown r) ≡ signText r
+unfolding shown
+sign-at r =
+    let x = hex (2 * r .width) (r .bits) in
+    drop-at (SPACE ∷ x) (signText r) (1 + 2 * r .width) (let e : length (SPACE ∷ x) ≡ 1 + 2 * r .width = omega (arith, length-hex (2 * r .width) (r .bits)) in e)
+
+pub shows-sign : ShowsSign
+shows-sign r = (
+  λ e. sign-at r ∙ rw (eq-eqb (r .more) 0 e),
+  (λ h e. sign-at r ∙ rw (ne-eqb (r .more) 0 h, eq-eqb (r .extra) 1 e), λ h e. sign-at r ∙ rw (ne-eqb (r .more) 0 h, ne-eqb (r .extra) 1 e)),
+)

@@ -8,9 +8,9 @@
 -- Assumes nothing.
 use mathlib.Core.Path.{_≡_, refl, sym, ap, _∙_, subst}
 use mathlib.Core.Bool.{Bool, true, false}
-use mathlib.Core.List.{List, [], _∷_, _++_, append-nil}
+use mathlib.Core.List.{List, [], _∷_, _++_, append-assoc, append-nil}
 use mathlib.Core.Logic.{⊎-elim}
-use Prim.Native.Nat.{ℕ, suc, _+_, _-_, _≤_, min}
+use Prim.Native.Nat.{ℕ, suc, _+_, _-_, _≤_, _<_, min}
 use native.Mathlib.Omega.{arith}
 use borrow.Author.Tests.{ltb-false}
 use lib.Dec.{ltb}
@@ -21,21 +21,21 @@ use Rattle.words.specs.Tests.{_=?_}
 use Rattle.digits.specs.Digits.{digits, word}
 use Rattle.digits.proofs.DigitLaws.{length-digits, word-digits}
 use Rattle.kinds.specs.Kinds.{shapeOf}
-use Rattle.records.specs.Codes.{DONE, UNKNOWN, FULL}
+use Rattle.records.specs.Codes.{DONE, UNKNOWN, CUT, FULL}
 use Rattle.records.specs.Run.{Out, stop, took, ahead, choose}
 use Rattle.records.proofs.RunLaws.{pick-elim, Sound, stop-sound, took-sound, choose-sound, Lawful, by-refused, by-took}
 use Rattle.records.proofs.SplitLaws.{ahead-assoc, ahead-none, ahead-stop}
-use Rattle.records.proofs.StepLaws.{choose-whole}
+use Rattle.records.proofs.StepLaws.{choose-unknown, choose-cut, choose-full, choose-whole}
 use Rattle.text.specs.Names.{Name, names}
 use Rattle.text.specs.Line.{asked, lineOf}
 use Rattle.text.specs.Text.{NEWLINE, onto, lines, closed, textOf}
 use Rattle.text.specs.Trip.{recordOf, firstLine, asRequest, toRequest, forth, bodyIn, toLine, back}
-use Rattle.text.specs.Promises.{Good, requestOf, requestsOf, turned, ended, ForthGood, ForthBad, ThereAndBack, OneText}
+use Rattle.text.specs.Promises.{Good, requestOf, requestsOf, turned, ended, restored, ForthGood, ForthBad, ForthFull, ThereAndBack, BackStops, OneText}
 use Rattle.text.specs.declared.Asked.{Asked}
 use Rattle.text.specs.declared.Asked.the-variants.{Bad, Ask}
 use Rattle.text.proofs.TextLaws.{text-lines}
-use Rattle.text.proofs.LineLaws.{bad-or-ask, line-back, ask-small, ask-body}
-use Rattle.text.proofs.PlaceLaws.{length-record, as-whole}
+use Rattle.text.proofs.LineLaws.{bad-or-ask, line-back, ask-small, body-of, body-none, ask-body}
+use Rattle.text.proofs.PlaceLaws.{length-record, as-whole, as-full}
 
 -- ---- the steps
 as-sound : (c : ℕ) (s : List ℕ) (room n : ℕ) (a : Asked) → n ≤ length s → Sound (c ∷ s) room (asRequest n room a)
@@ -171,11 +171,22 @@ forth-bad s room a l b e g z h =
     let all = turned DONE (f .read) a in
     (f .read, (f .run ∙ ap (ahead all) (refused (drop (f .read) s) (room - length (requestsOf a)) l b (f .left) z) ∙ ahead-stop all UNKNOWN, f .left))
 
--- ---- and back
--- the requests of these lines turned into them
-abbrev pub restored : List (List ℕ) → Out
-restored ls = record { code = DONE; tally = record { records = length ls; read = length (requestsOf ls); written = length (textOf ls) }; bytes = textOf ls }
+-- a good line whose request has no room
+crowded : (t : List ℕ) (room : ℕ) (l : List ℕ) (b : List (List ℕ)) (k v : ℕ) → lines t ≡ l ∷ b → asked names l ≡ Ask k v → room < 1 + shapeOf k .body → forth names t room ≡ stop FULL
+unfolding toRequest lines
+crowded [] room l b k v e z f = let n : 0 ≡ suc (length b) = ap length e in absurd (omega arith)
+crowded (c ∷ s) room l b k v e z f =
+    let p : firstLine (c ∷ s) ∷ lines (drop (past c s) s) ≡ l ∷ b = sym (lines-first c s) ∙ e in
+    let el : firstLine (c ∷ s) ≡ l = cc in
+    by-refused (toRequest names) (request-lawful names) (c ∷ s) room FULL (ap (asRequest (past c s) room) (ap (asked names) el ∙ z) ∙ as-full (past c s) room k v f)
 
+pub forth-full : ForthFull
+forth-full s room a l b k v e g z h m =
+    let f = front a s (l ∷ b) room e g h in
+    let all = turned DONE (f .read) a in
+    (f .read, (f .run ∙ ap (ahead all) (crowded (drop (f .read) s) (room - length (requestsOf a)) l b k v (f .left) z (omega (arith, h, m))) ∙ ahead-stop all FULL, f .left))
+
+-- ---- and back
 -- the request of a good line at the front is turned into that line
 line-of : (l : List ℕ) (k b room : ℕ) (r : List ℕ) → asked names l ≡ Ask k b → length (closed l) ≤ room → toLine names (recordOf k b ++ r) room ≡ took (shapeOf k .body) (closed l)
 unfolding toLine
@@ -189,31 +200,69 @@ line-of l k b room r e h =
     ∙ ap (λ (x : List ℕ). choose w (length s) room (closed x)) (ap (lineOf names k) (word-digits w b r (ask-small l k b e)) ∙ line-back l k b e)
     ∙ choose-whole w (length s) room (closed l) (omega (arith, y .1)) (omega arith) h
 
-pub back-good : (ls : List (List ℕ)) (room : ℕ) → Good ls → length (textOf ls) ≤ room → back names (requestsOf ls) room ≡ restored ls
-unfolding toLine textOf
-back-good [] room g h = by-refused (toLine names) (line-lawful names) [] room DONE refl
-back-good (l ∷ ls) room g h =
+-- the requests of good lines are turned first, and then what is behind them
+back-front : (ls : List (List ℕ)) (t : List ℕ) (room : ℕ) → Good ls → length (textOf ls) ≤ room →
+    back names (requestsOf ls ++ t) room ≡ ahead (restored DONE ls) (back names t (room - length (textOf ls)))
+unfolding textOf
+back-front [] t room g h =
+    let z : room ≡ room - 0 = omega arith in
+    ap (back names t) z ∙ sym (ahead-none (restored DONE []) (back names t (room - 0)) refl refl)
+back-front (l ∷ ls) t room g h =
     let q = asks l (g .0) in
     let k = q .0 in
     let b = q .1 .0 in
     let w = shapeOf k .body in
-    let r = requestsOf ls in
+    let r = requestsOf ls ++ t in
     let x = recordOf k b ++ r in
     let lx = length-record k b in
-    let la = length-append (recordOf k b) r in
-    let first : requestsOf (l ∷ ls) ≡ x = ap (λ (y : Asked). requestOf y ++ r) (q .1 .1) in
+    let first : requestsOf (l ∷ ls) ++ t ≡ x = ap (λ (y : Asked). (requestOf y ++ requestsOf ls) ++ t) (q .1 .1) ∙ append-assoc (recordOf k b) (requestsOf ls) t in
+    let count : 1 + w + length (requestsOf ls) ≡ length (requestsOf (l ∷ ls)) =
+    omega (arith, ap (λ (y : Asked). length (requestOf y ++ requestsOf ls)) (q .1 .1), length-append (recordOf k b) (requestsOf ls), lx) in
     let n : 1 + length ls ≡ suc (length ls) = omega arith in
-    let e : 1 + w + length r ≡ length (requestsOf (l ∷ ls)) = omega (arith, ap length first) in
     let v : length (closed l) + length (textOf ls) ≡ length (closed l ++ textOf ls) = sym (length-append (closed l) (textOf ls)) in
+    let d : room - length (closed l) - length (textOf ls) ≡ room - length (closed l ++ textOf ls) = omega (arith, v) in
+    let later = back names t (room - length (closed l) - length (textOf ls)) in
+    let done : ahead (took w (closed l)) (restored DONE ls) ≡ restored DONE (l ∷ ls) =
+    λ i. record { code = DONE; tally = record { records = n i; read = count i; written = v i }; bytes = closed l ++ textOf ls } in
     ap (λ (y : List ℕ). back names y room) first
     ∙ by-took (toLine names) (line-lawful names) x room w (closed l) (line-of l k b room r (q .1 .1) (omega (arith, h, v)))
     ∙ ap (λ (y : List ℕ). ahead (took w (closed l)) (back names y (room - length (closed l)))) (drop-at (recordOf k b) r (1 + w) lx)
-    ∙ ap (ahead (took w (closed l))) (back-good ls (room - length (closed l)) (g .1) (omega (arith, h, v)))
-    ∙ (λ i. record { code = DONE; tally = record { records = n i; read = e i; written = v i }; bytes = closed l ++ textOf ls })
+    ∙ ap (ahead (took w (closed l))) (back-front ls t (room - length (closed l)) (g .1) (omega (arith, h, v)))
+    ∙ sym (ahead-assoc (took w (closed l)) (restored DONE ls) later)
+    ∙ ap (λ (o : Out). ahead o later) done
+    ∙ ap (λ (m : ℕ). ahead (restored DONE (l ∷ ls)) (back names t m)) d
+
+-- so where the rest is refused at once
+back-refused : (ls : List (List ℕ)) (t : List ℕ) (room c : ℕ) → Good ls → length (textOf ls) ≤ room → toLine names t (room - length (textOf ls)) ≡ stop c →
+    back names (requestsOf ls ++ t) room ≡ restored c ls
+back-refused ls t room c g h e =
+    back-front ls t room g h
+    ∙ ap (ahead (restored DONE ls)) (by-refused (toLine names) (line-lawful names) t (room - length (textOf ls)) c e) ∙ ahead-stop (restored DONE ls) c
+
+pub back-good : (ls : List (List ℕ)) (room : ℕ) → Good ls → length (textOf ls) ≤ room → back names (requestsOf ls) room ≡ restored DONE ls
+unfolding toLine
+back-good ls room g h = ap (λ (x : List ℕ). back names x room) (sym (append-nil (requestsOf ls))) ∙ back-refused ls [] room DONE g h refl
+
+pub back-stops : BackStops
+unfolding toLine
+back-stops ls k s room g h =
+    let left = room - length (textOf ls) in
+    let tests : (w : ℕ) → bodyIn names k ≡ w → toLine names (k ∷ s) left ≡ choose w (length s) left (closed (lineOf names k (word w s))) =
+    λ w e. ap (λ (v : ℕ). choose v (length s) left (closed (lineOf names k (word v s)))) e in
+    let w = shapeOf k .body in
+    let line = closed (lineOf names k (word w s)) in (
+      λ none. back-refused ls (k ∷ s) room UNKNOWN g h (tests 0 (body-none names k none) ∙ choose-unknown 0 (length s) left (closed (lineOf names k (word 0 s))) refl),
+      (
+        λ n i e l. let y = body-of n k i e in
+            back-refused ls (k ∷ s) room CUT g h (tests w (y .0) ∙ choose-cut w (length s) left line (omega (arith, y .1)) l),
+        λ n i e l f. let y = body-of n k i e in
+            back-refused ls (k ∷ s) room FULL g h (tests w (y .0) ∙ choose-full w (length s) left line (omega (arith, y .1)) l (omega (arith, f, h))),
+      ),
+    )
 
 pub there-and-back : ThereAndBack
 there-and-back s room large g h m =
-    let e : back names (forth names s room .bytes) large ≡ restored (lines s) =
+    let e : back names (forth names s room .bytes) large ≡ restored DONE (lines s) =
     ap (λ (o : Out). back names (o .bytes) large) (forth-good s room g h) ∙ back-good (lines s) large g (subst (λ (x : List ℕ). length x ≤ large) (sym (text-lines s)) m) in
     (ap (λ (o : Out). o .code) e, ap (λ (o : Out). o .bytes) e ∙ text-lines s)
 

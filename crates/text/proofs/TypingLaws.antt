@@ -4,24 +4,29 @@
 --     at-once             After each piece, those that were sent are the replies to the lines that are finished, and no others.
 --     broken-is-front     Where something fails, those that were handed to write are a front of the replies to what was read.
 --     gives-back          The program gives back 0, or 255.
+--     zero-is-all         Its code is 0 only where the input ended and nothing failed before.
+--     fails-alone         It gives back 255 only where something failed, or after 2 ^ 64 - 1 turns.
+--     carries-little      It carries over 26 bytes at most.
 use mathlib.Core.Path.{_≡_, refl, sym, ap, _∙_, subst}
 use mathlib.Core.Bool.{Bool, true, false}
 use mathlib.Core.List.{List, [], _∷_, _++_, map, map-append, append-assoc, append-nil}
 use mathlib.Core.Logic.{_⊎_, inl, inr, ⊎-elim}
-use Prim.Native.Nat.{ℕ, _<_}
+use Prim.Native.Nat.{ℕ, _≤_, _<_}
 use native.Mathlib.Omega.{arith}
-use borrow.Author.Tests.{ltb-true, ltb-false}
+use borrow.Author.Tests.{ltb-true, ltb-false, ne-eqb}
 use lib.Dec.{ltb}
-use lib.ListN.{length, take, length-append}
+use lib.IntN.{pos}
+use lib.ListN.{length, take, length-append, length-take}
 use lib.Seq.{take-all, take-append-le, length-take-le}
 use Rattle.records.specs.Row.{Row}
 use Rattle.records.specs.Pieces.{whole}
-use Rattle.session.specs.Session.{Heard, brought, failed, piece, Event, Turn, turnOf, Said, session, came, delivered, arriving, Some}
-use Rattle.session.proofs.SayLaws.{Front, end-delivered, more-came, front-end, front-of, coded}
+use Rattle.decide.specs.Decide.{atEndS}
+use Rattle.session.specs.Session.{Heard, brought, failed, answered, piece, Event, Turn, turnOf, Said, session, came, delivered, arriving, Some}
+use Rattle.session.proofs.SayLaws.{Front, end-came, more-came, breaks-by-failure, ends-whole, front-end, front-of, coded}
 use Rattle.text.specs.Text.{lines, textOf, Cut, cut}
 use Rattle.text.specs.Reply.{replyTo, repliesTo}
-use Rattle.text.specs.Typing.{KEPT, turnOn, ends, typing}
-use Rattle.text.specs.Promises.{typedOf, typed, CutsDoNotShow, AtOnce, BrokenIsFront, GivesBack}
+use Rattle.text.specs.Typing.{KEPT, turnOn, typing}
+use Rattle.text.specs.Promises.{typedOf, typed, CutsDoNotShow, AtOnce, BrokenIsFront, GivesBack, ZeroIsAll, BreaksByFailure, CarriesLittle}
 use Rattle.text.proofs.TextLaws.{Free, free-take, text-append, rest-free, graft, cut-front, cut-free, cut-append, lastLine, lines-cut}
 use Rattle.text.proofs.LineLaws.{long-bad}
 use Rattle.text.proofs.ReplyLaws.{reply-bad}
@@ -104,17 +109,14 @@ module _ (T : List Row) where
       ap (λ (x : List ℕ). record { bytes = x; code = 0; left = take KEPT (cut (take KEPT u ++ p) .rest) }) (same-said u p f)
       ∙ ap (λ (x : List ℕ). record { bytes = said (cut (u ++ p)); code = 0; left = x }) (same-left u p f)
 
+  -- a read that brings bytes is not the end
+  more-comes : (p : List ℕ) → 0 < length p → atEndS (pos (length p)) ≡ false
+  more-comes p h = ne-eqb (length p) 0 (λ e. omega arith)
+
   -- a turn that brings bytes, and where the line goes on from
   module _ (u p : List ℕ) (f : Free u) (h : 0 < length p) where
-    more-ends : ends (brought p) ≡ false
-    more-ends = by-bytes p h
-      where
-        by-bytes : (p : List ℕ) → 0 < length p → ends (brought p) ≡ false
-        by-bytes [] h = absurd (omega arith)
-        by-bytes (c ∷ p) h = refl
-
     turn-more : turnOf (typing T) (take KEPT u) (came p) ≡ turnOn T false (u ++ p)
-    turn-more = ap (λ (b : Bool). turnOn T b (take KEPT u ++ p)) more-ends ∙ turn-over u p f
+    turn-more = ap (λ (b : Bool). turnOn T b (take KEPT u ++ p)) (more-comes p h) ∙ turn-over u p f
 
   -- what a turn says and then the later ones, from what it left
   abbrev ahead : (List ℕ → Said) → Turn → Said
@@ -127,19 +129,20 @@ module _ (T : List Row) where
       more-came (typing T) (take KEPT u) p es (λ z. let y : 0 ≡ 1 = sym (ap (λ (t : Turn). t .code) e) ∙ z in omega arith) h
       ∙ ap (ahead (λ x. session (typing T) x es)) e
 
-  by-pieces : (u : List ℕ) (ps : List (List ℕ)) → Free u → Some ps →
-      session (typing T) (take KEPT u) (delivered ps) ≡ record { bytes = repliesTo T (u ++ whole ps); code = 0 }
-  by-pieces u [] f s =
-      end-delivered (typing T) (take KEPT u)
+  -- all pieces to the end, whatever events are behind it
+  by-pieces : (u : List ℕ) (ps : List (List ℕ)) (more : List Event) → Free u → Some ps →
+      session (typing T) (take KEPT u) (delivered ps ++ more) ≡ record { bytes = repliesTo T (u ++ whole ps); code = 0 }
+  by-pieces u [] more f s =
+      end-came (typing T) (take KEPT u) more
       ∙ ap (λ (x : List ℕ). record { bytes = x; code = 0 }) (append-nil (repliesTo T (take KEPT u ++ [])) ∙ same-all u [] f)
-  by-pieces u (p ∷ ps) f s =
+  by-pieces u (p ∷ ps) more f s =
       let v = cut (u ++ p) .rest in
-      goes-on u p (delivered ps) f (s .0)
-      ∙ ap (λ (x : Said). record { bytes = said (cut (u ++ p)) ++ x .bytes; code = x .code }) (by-pieces v ps (rest-free (u ++ p)) (s .1))
+      goes-on u p (delivered ps ++ more) f (s .0)
+      ∙ ap (λ (x : Said). record { bytes = said (cut (u ++ p)) ++ x .bytes; code = x .code }) (by-pieces v ps more (rest-free (u ++ p)) (s .1))
       ∙ ap (λ (x : List ℕ). record { bytes = x; code = 0 }) (sym (replies-append (u ++ p) (whole ps)) ∙ ap (repliesTo T) (append-assoc u p (whole ps)))
 
   pub cuts-do-not-show : CutsDoNotShow T
-  cuts-do-not-show ps s = by-pieces [] ps tt s
+  cuts-do-not-show ps s = ap (session (typing T) []) (sym (append-nil (delivered ps))) ∙ by-pieces [] ps [] tt s
 
   -- ---- before the input ends
 
@@ -160,7 +163,7 @@ module _ (T : List Row) where
   -- ---- where something fails
 
   -- a turn over u and the bytes p, and what should be said behind it
-  front-more : (u p : List ℕ) (h : Heard) (sent : Bool) (es : List Event) → Free u → piece h ≡ p → ends h ≡ false →
+  front-more : (u p : List ℕ) (h : Heard) (sent : Bool) (es : List Event) → Free u → piece h ≡ p → atEndS (answered h) ≡ false →
       ((v : List ℕ) → Free v → Front (repliesTo T (v ++ typed es)) (session (typing T) (take KEPT v) es)) →
       Front (repliesTo T (u ++ (p ++ typed es))) (session (typing T) (take KEPT u) (record { heard = h; sent = sent } ∷ es))
   front-more u p h sent es f ep ee later =
@@ -182,17 +185,37 @@ module _ (T : List Row) where
           Front (repliesTo T (u ++ typedOf h (typed es))) (session (typing T) (take KEPT u) (record { heard = h; sent = e .sent } ∷ es))
       by-heard later failed = front-more u [] failed (e .sent) es f refl refl later
       by-heard later (brought []) = front-end (typing T) (take KEPT u) (e .sent) es _ (λ z. omega arith) (sym (same-all u [] f))
-      by-heard later (brought (c ∷ p)) = front-more u (c ∷ p) (brought (c ∷ p)) (e .sent) es f refl refl later
+      by-heard later (brought (c ∷ p)) = front-more u (c ∷ p) (brought (c ∷ p)) (e .sent) es f refl (more-comes (c ∷ p) (omega arith)) later
 
   pub broken-is-front : BrokenIsFront T
   broken-is-front es z = fronts [] es tt z
 
-  -- no turn stops it, and it gives back 0, or 255
+  -- no turn stops it
   pub code-zero : (b : Bool) (s : List ℕ) → turnOn T b s .code ≡ 0
   code-zero true s = refl
   code-zero false s = refl
 
+  turn-zero : (rest : List ℕ) (h : Heard) → typing T .turn rest h .code ≡ 0
+  turn-zero rest h = code-zero (atEndS (answered h)) (rest ++ piece h)
+
   pub gives-back : GivesBack T
   gives-back size r n =
       subst (λ (c : ℕ). (c ≡ 0) ⊎ (c ≡ 255)) (sym (n .code))
-      (coded (typing T) size (λ c. (c ≡ 0) ⊎ (c ≡ 255)) (inr refl) (λ rest e h. inl (code-zero (ends (e .heard)) (rest ++ piece (e .heard)))) [] (n .events) (n .fits))
+      (coded (typing T) size (λ c. (c ≡ 0) ⊎ (c ≡ 255)) (inr refl) (λ rest e h. inl (turn-zero rest (e .heard))) [] (n .events) (n .fits))
+
+  pub zero-is-all : ZeroIsAll T
+  zero-is-all es z =
+      let w = ends-whole (typing T) (λ rest h y. omega (arith, turn-zero rest h, y)) [] es (λ y. omega (arith, z, y)) in
+      let q = w .1 .1 in
+      (w .0, (w .1 .0, (q .0, (q .1, ap (λ (x : List Event). session (typing T) [] x .bytes) (q .1) ∙ ap (λ (x : Said). x .bytes) (by-pieces [] (w .0) (w .1 .0) tt (q .0))))))
+
+  pub fails-alone : BreaksByFailure T
+  fails-alone = breaks-by-failure (typing T) (λ rest h y. omega (arith, turn-zero rest h, y))
+
+  -- what is carried over is at most 26 bytes
+  left-small : (b : Bool) (s : List ℕ) → length (turnOn T b s .left) ≤ KEPT
+  left-small true s = omega arith
+  left-small false s = let l = length-take KEPT (cut s .rest) in omega arith
+
+  pub carries-little : CarriesLittle T
+  carries-little rest h = left-small (atEndS (answered h)) (rest ++ piece h)

@@ -48,7 +48,7 @@ abbrev pub orElse : Asked → Asked → Asked
 orElse Bad later = later
 orElse (Ask k b) later = Ask k b
 
--- what a line asks for: it is bad where it is a line of no name
+-- what a line asks for: it is bad where it is a line of no name, and else good
 unfoldable pub asked : List Name → List ℕ → Asked
 asked [] s = Bad
 asked (n ∷ ns) s = orElse (askedAs (headOf n) (n .kind) s) (asked ns s)

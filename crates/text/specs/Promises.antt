@@ -1,23 +1,26 @@
 -- What is promised of lines, of texts, of replies and of the program. proofs/Promised has a proof of each: what speaks of replies or of the program
 -- holds for every table T of kinds.
-use Prim.Native.Nat.{ℕ, _^_, _≤_, _<_}
+use Prim.Native.Nat.{ℕ, _+_, _-_, _*_, _^_, _≤_, _<_}
 use mathlib.Core.Path.{_≡_}
 use mathlib.Core.Logic.{_⊎_}
 use mathlib.Core.List.{List, [], _∷_, _++_, map}
-use lib.ListN.{length, drop}
-use Rattle.hex.specs.Hex.{hex}
+use lib.ListN.{length, take, drop}
+use Rattle.digits.specs.Digits.{word}
+use Rattle.hex.specs.Hex.{hex, numberS}
+use Rattle.hex.specs.declared.Number.the-variants.{Is}
 use Rattle.kinds.specs.Kinds.{shapeOf}
 use Rattle.records.specs.Reply.{bytesOf}
 use Rattle.records.specs.Row.{Row, rowIn}
-use Rattle.records.specs.Codes.{DONE, UNKNOWN}
+use Rattle.records.specs.Codes.{DONE, UNKNOWN, CUT, FULL}
 use Rattle.records.specs.Run.{Out, run}
 use Rattle.records.specs.Pieces.{whole}
 use Rattle.records.specs.declared.Reply.{Reply}
-use Rattle.session.specs.Session.{Heard, brought, failed, Event, session, delivered, arriving, Some}
+use Rattle.session.specs.Session.{Heard, brought, failed, Event, session, delivered, arriving, Some, Failing}
 use Rattle.session.specs.Post.{Ran}
+use Rattle.text.specs.Quoted.{ascii}
 use Rattle.text.specs.Names.{Name, names}
 use Rattle.text.specs.Line.{headOf, digitsOf, asked, lineOf}
-use Rattle.text.specs.Text.{NEWLINE, lines, textOf, cut}
+use Rattle.text.specs.Text.{NEWLINE, lines, closed, textOf, cut}
 use Rattle.text.specs.Reply.{BAD, shown, replyTo, repliesTo}
 use Rattle.text.specs.Trip.{recordOf, forth, back}
 use Rattle.text.specs.Typing.{typing}
@@ -31,11 +34,11 @@ abbrev pub In : Name → List Name → Type 0
 In n [] = ⊥
 In n (m ∷ ms) = (n ≡ m) ⊎ In n ms
 
--- s is a line of name n: its letters, a space, and the digits of the bits b, as many as the numbers of its kind k have
+-- s is a line of name n: its letters, a space, and the digits of the bits b, which fill the body of a request of its kind k
 pub record Says (n : Name) (s : List ℕ) (k b : ℕ) : Type 0 where
   pub kind : k ≡ n .kind
   pub line : s ≡ headOf n ++ hex (digitsOf k) b
-  pub small : b < 16 ^ digitsOf k
+  pub small : b < 256 ^ (shapeOf k .body)
 
 -- A good line is a line of some name of the table, and asks for what it says; and each such line is good. Every other line is bad.
 abbrev pub GoodSays : Type 0
@@ -52,9 +55,9 @@ LineBack = (s : List ℕ) (k b : ℕ) → asked names s ≡ Ask k b → lineOf n
 abbrev pub OneLine : Type 0
 OneLine = (s t : List ℕ) (k b : ℕ) → asked names s ≡ Ask k b → asked names t ≡ Ask k b → s ≡ t
 
--- The line of a kind that has a name, and of bits of its width, asks for them.
+-- The line of a kind that has a name, and of any bits that a request of it can have, asks for them.
 abbrev pub LineAsks : Type 0
-LineAsks = (n : Name) → In n names → (b : ℕ) → b < 16 ^ digitsOf (n .kind) → asked names (lineOf names (n .kind) b) ≡ Ask (n .kind) b
+LineAsks = (n : Name) → In n names → (b : ℕ) → b < 256 ^ (shapeOf (n .kind) .body) → asked names (lineOf names (n .kind) b) ≡ Ask (n .kind) b
 
 -- ---- texts
 
@@ -80,11 +83,21 @@ turned c read ls = record { code = c; tally = record { records = length ls; read
 abbrev pub ForthGood : Type 0
 ForthGood = (s : List ℕ) (room : ℕ) → Good (lines s) → length (requestsOf (lines s)) ≤ room → forth names s room ≡ turned DONE (length s) (lines s)
 
--- The first bad line stops it with code 1, behind the requests of the lines before it, where these have room; what is left begins with that line.
+-- it was stopped by a code at the line l, behind the requests of the lines a before it, and what is left begins with that line
+abbrev pub StoppedAt : ℕ → List ℕ → ℕ → List (List ℕ) → List ℕ → List (List ℕ) → Type 0
+StoppedAt c s room a l b = (read : ℕ) × ((forth names s room ≡ turned c read a) × (lines (drop read s) ≡ l ∷ b))
+
+-- The first bad line stops it with code 1, where the requests of the lines before it have room.
 abbrev pub ForthBad : Type 0
 ForthBad =
     (s : List ℕ) (room : ℕ) (a : List (List ℕ)) (l : List ℕ) (b : List (List ℕ)) → lines s ≡ a ++ (l ∷ b) → Good a → asked names l ≡ Bad →
-    length (requestsOf a) ≤ room → (read : ℕ) × ((forth names s room ≡ turned UNKNOWN read a) × (lines (drop read s) ≡ l ∷ b))
+    length (requestsOf a) ≤ room → StoppedAt UNKNOWN s room a l b
+
+-- The first good line whose request has no room stops it with code 3.
+abbrev pub ForthFull : Type 0
+ForthFull =
+    (s : List ℕ) (room : ℕ) (a : List (List ℕ)) (l : List ℕ) (b : List (List ℕ)) (k v : ℕ) → lines s ≡ a ++ (l ∷ b) → Good a → asked names l ≡ Ask k v →
+    length (requestsOf a) ≤ room → room < length (requestsOf a) + (1 + shapeOf k .body) → StoppedAt FULL s room a l b
 
 -- a text with its last newline, which is supplied where it is missing: where the unfinished line has a byte
 abbrev pub supplied : List ℕ → List ℕ
@@ -99,6 +112,21 @@ abbrev pub ThereAndBack : Type 0
 ThereAndBack =
     (s : List ℕ) (room large : ℕ) → Good (lines s) → length (requestsOf (lines s)) ≤ room → length (ended s) ≤ large →
     (back names (forth names s room .bytes) large .code ≡ DONE) × (back names (forth names s room .bytes) large .bytes ≡ ended s)
+
+-- what was done with the requests of these lines: the lines are written, each with its newline, and a code
+abbrev pub restored : ℕ → List (List ℕ) → Out
+restored c ls = record { code = c; tally = record { records = length ls; read = length (requestsOf ls); written = length (textOf ls) }; bytes = textOf ls }
+
+-- Behind the requests of good lines, whose text has room, a kind without a name stops the way back with code 1; a kind with a name whose body is
+-- cut, with code 2; and one whose line has no room, with code 3.
+abbrev pub BackStops : Type 0
+BackStops =
+    (ls : List (List ℕ)) (k : ℕ) (s : List ℕ) (room : ℕ) → Good ls → length (textOf ls) ≤ room →
+    let o = back names (requestsOf ls ++ (k ∷ s)) room in
+    let body = shapeOf k .body in
+    (((n : Name) → In n names → k ≡ n .kind → ⊥) → o ≡ restored UNKNOWN ls)
+    × (((n : Name) → In n names → k ≡ n .kind → length s < body → o ≡ restored CUT ls)
+    × ((n : Name) → In n names → k ≡ n .kind → body ≤ length s → room < length (textOf ls) + length (closed (lineOf names k (word body s))) → o ≡ restored FULL ls))
 
 -- So no two such texts have the same requests, but for a last newline.
 abbrev pub OneText : Type 0
@@ -141,6 +169,17 @@ SameAnswer T =
     ((k : ℕ) → rowIn T k .width ≡ shapeOf k .body) → (s : List ℕ) (k b room : ℕ) → asked names s ≡ Ask k b →
     length (bytesOf (rowIn T k .reply b)) ≤ room → Shown T s k b room
 
+-- Behind a space, an answer as text shows two digits a byte of its value: they say the number that the bytes of its value make.
+abbrev pub ShowsValue : Type 0
+ShowsValue = (r : Reply) → r .width ≤ 8 → numberS (take (2 * r .width) (drop 1 (shown r))) ≡ Is (word (r .width) (drop 1 (bytesOf r)))
+
+-- Behind them stands nothing where it has no sign byte; a space and a + where that is 1; and else a space and a -.
+abbrev pub ShowsSign : Type 0
+ShowsSign =
+    (r : Reply) →
+    let t = drop (1 + 2 * r .width) (shown r) in
+    (r .more ≡ 0 → t ≡ []) × (((r .more ≡ 0 → ⊥) → r .extra ≡ 1 → t ≡ ascii " +") × ((r .more ≡ 0 → ⊥) → (r .extra ≡ 1 → ⊥) → t ≡ ascii " -"))
+
 -- ---- the program
 
 -- However the input is cut into pieces, where nothing fails, all that is said are the replies to the whole text, and the code is 0.
@@ -168,3 +207,17 @@ BrokenIsFront T = (es : List Event) → session (typing T) [] es .code ≡ 255 �
 -- What the program gives back is 0, or 255.
 abbrev pub GivesBack : List Row → Type 0
 GivesBack T = (size r : ℕ) → Ran (typing T) size r → (r ≡ 0) ⊎ (r ≡ 255)
+
+-- Its code is 0 only where the input came in pieces and ended, and nothing failed before; so all that is said are the replies to the whole text.
+abbrev pub ZeroIsAll : List Row → Type 0
+ZeroIsAll T =
+    (es : List Event) → session (typing T) [] es .code ≡ 0 →
+    (ps : List (List ℕ)) × ((more : List Event) × (Some ps × ((es ≡ delivered ps ++ more) × (session (typing T) [] es .bytes ≡ repliesTo T (whole ps)))))
+
+-- It gives back 255 only where a read or a write failed, or after 2 ^ 64 - 1 turns.
+abbrev pub BreaksByFailure : List Row → Type 0
+BreaksByFailure T = (size : ℕ) (r : Ran (typing T) size 255) → Failing (r .events) ⊎ (length (r .events) ≡ 2 ^ 64 - 1)
+
+-- From turn to turn it carries over 26 bytes at most.
+abbrev pub CarriesLittle : List Row → Type 0
+CarriesLittle T = (rest : List ℕ) (h : Heard) → length (typing T .turn rest h .left) ≤ 26

@@ -2,10 +2,11 @@
 -- the input the unfinished line counts.
 use Prim.Native.Nat.{ℕ}
 use mathlib.Core.Bool.{Bool, true, false}
-use mathlib.Core.List.{List, [], _∷_, _++_, map}
+use mathlib.Core.List.{List, [], _++_, map}
 use lib.ListN.{take}
 use Rattle.records.specs.Row.{Row}
-use Rattle.session.specs.Session.{Heard, brought, failed, piece, Turn, Program}
+use Rattle.decide.specs.Decide.{atEndS}
+use Rattle.session.specs.Session.{answered, piece, Turn, Program}
 use Rattle.text.specs.Text.{textOf, cut}
 use Rattle.text.specs.Reply.{replyTo, repliesTo}
 
@@ -18,12 +19,6 @@ abbrev pub turnOn : List Row → Bool → List ℕ → Turn
 turnOn T true s = record { bytes = repliesTo T s; code = 0; left = [] }
 turnOn T false s = record { bytes = textOf (map (replyTo T) (cut s .whole)); code = 0; left = take KEPT (cut s .rest) }
 
--- a read of no byte is the end of the input
-abbrev pub ends : Heard → Bool
-ends (brought []) = true
-ends (brought (c ∷ p)) = false
-ends failed = false
-
 -- nothing closes the output
 abbrev pub typing : List Row → Program
-typing T = record { turn = λ rest h. turnOn T (ends h) (rest ++ piece h); closing = λ code. [] }
+typing T = record { turn = λ rest h. turnOn T (atEndS (answered h)) (rest ++ piece h); closing = λ code. [] }
