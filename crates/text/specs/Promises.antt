@@ -113,6 +113,12 @@ ThereAndBack =
     (s : List ℕ) (room large : ℕ) → Good (lines s) → length (requestsOf (lines s)) ≤ room → length (ended s) ≤ large →
     (back names (forth names s room .bytes) large .code ≡ DONE) × (back names (forth names s room .bytes) large .bytes ≡ ended s)
 
+-- So no two such texts have the same requests, but for a last newline.
+abbrev pub OneText : Type 0
+OneText =
+    (s t : List ℕ) (room : ℕ) → Good (lines s) → Good (lines t) → length (requestsOf (lines s)) ≤ room → length (requestsOf (lines t)) ≤ room →
+    forth names s room .bytes ≡ forth names t room .bytes → ended s ≡ ended t
+
 -- what was done with the requests of these lines: the lines are written, each with its newline, and a code
 abbrev pub restored : ℕ → List (List ℕ) → Out
 restored c ls = record { code = c; tally = record { records = length ls; read = length (requestsOf ls); written = length (textOf ls) }; bytes = textOf ls }
@@ -127,12 +133,6 @@ BackStops =
     (((n : Name) → In n names → k ≡ n .kind → ⊥) → o ≡ restored UNKNOWN ls)
     × (((n : Name) → In n names → k ≡ n .kind → length s < body → o ≡ restored CUT ls)
     × ((n : Name) → In n names → k ≡ n .kind → body ≤ length s → room < length (textOf ls) + length (closed (lineOf names k (word body s))) → o ≡ restored FULL ls))
-
--- So no two such texts have the same requests, but for a last newline.
-abbrev pub OneText : Type 0
-OneText =
-    (s t : List ℕ) (room : ℕ) → Good (lines s) → Good (lines t) → length (requestsOf (lines s)) ≤ room → length (requestsOf (lines t)) ≤ room →
-    forth names s room .bytes ≡ forth names t room .bytes → ended s ≡ ended t
 
 -- ---- replies
 
