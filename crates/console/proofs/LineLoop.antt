@@ -66,7 +66,7 @@ module _ (s first out : List ℕ) (i read written : ℕ) (l : Looked s first out
   front : take (i + 1) s ≡ take i s ++ (getD s i 0 ∷ [])
   front = ap (λ (k : ℕ). take k s) (add-one i) ∙ take-suc s i 0 h
 
-  more : cut (take (i + 1) s) ≡ joined (cut (take i s) .whole) (cut (cut (take i s) .rest ++ (getD s i 0 ∷ [])))
+  more : cut (take (i + 1) s) ≡ joined (cut (take i s) .finished) (cut (cut (take i s) .rest ++ (getD s i 0 ∷ [])))
   more = ap cut front ∙ cut-append (take i s) (getD s i 0 ∷ [])
 
   -- the line so far
@@ -80,10 +80,10 @@ module _ (s first out : List ℕ) (i read written : ℕ) (l : Looked s first out
   pub looked-on : (getD s i 0 ≡ NEWLINE → ⊥) → Looked s first out (i + 1) read written
   looked-on z =
       let c = getD s i 0 in
-      let a = cut (take i s) .whole in
-      let e : cut (take (i + 1) s) ≡ record { whole = a; rest = line ++ (c ∷ []) } =
+      let a = cut (take i s) .finished in
+      let e : cut (take (i + 1) s) ≡ record { finished = a; rest = line ++ (c ∷ []) } =
       more ∙ ap (joined a) (cut-free (line ++ (c ∷ [])) (free-append line (c ∷ []) (rest-free (take i s)) (z, tt)))
-      ∙ ap (λ (x : List (List ℕ)). record { whole = x; rest = line ++ (c ∷ []) }) (append-nil a) in
+      ∙ ap (λ (x : List (List ℕ)). record { finished = x; rest = line ++ (c ∷ []) }) (append-nil a) in
       let n = length-take-le i s (omega arith) in
       record {
         inside = omega arith;
@@ -92,24 +92,24 @@ module _ (s first out : List ℕ) (i read written : ℕ) (l : Looked s first out
             ap (drop read) front ∙ drop-append-le read (take i s) (c ∷ []) (omega (arith, l .before, n)) ∙ ap (λ (x : List ℕ). x ++ (c ∷ [])) (l .rest)
             ∙ sym (ap (λ (k : Cut). k .rest) e);
         light = l .light;
-        wrote = subst (λ (x : List ℕ). Wrote x 0 written first out) (sym (ap (λ (k : Cut). textOf (map (replyTo table) (k .whole))) e)) (l .wrote);
+        wrote = subst (λ (x : List ℕ). Wrote x 0 written first out) (sym (ap (λ (k : Cut). textOf (map (replyTo table) (k .finished))) e)) (l .wrote);
       }
 
   -- that is one: the line is answered
   module _ (n : ℕ) (q : List ℕ) (w : Wrote (closed (replyTo table line)) written n out q) (z : getD s i 0 ≡ NEWLINE) where
-    finished : cut (line ++ (getD s i 0 ∷ [])) ≡ record { whole = line ∷ []; rest = [] }
+    shut-line : cut (line ++ (getD s i 0 ∷ [])) ≡ record { finished = line ∷ []; rest = [] }
     unfolding cut
-    finished = ap (λ (x : ℕ). cut (line ++ (x ∷ []))) z ∙ ap cut (sym (append-nil (closed line))) ∙ cut-closed line [] (rest-free (take i s))
+    shut-line = ap (λ (x : ℕ). cut (line ++ (x ∷ []))) z ∙ ap cut (sym (append-nil (closed line))) ∙ cut-closed line [] (rest-free (take i s))
 
     pub looked-line : Looked s first q (i + 1) (i + 1) n
     unfolding textOf
     looked-line =
-        let a = cut (take i s) .whole in
-        let e : cut (take (i + 1) s) ≡ record { whole = a ++ (line ∷ []); rest = [] } = more ∙ ap (joined a) finished in
+        let a = cut (take i s) .finished in
+        let e : cut (take (i + 1) s) ≡ record { finished = a ++ (line ∷ []); rest = [] } = more ∙ ap (joined a) shut-line in
         let x : said (take i s) ++ closed (replyTo table line) ≡ said (take (i + 1) s) =
         ap (λ (y : List ℕ). said (take i s) ++ y) (sym (append-nil (closed (replyTo table line))))
         ∙ sym (ap textOf (map-append (replyTo table) a (line ∷ [])) ∙ text-append (map (replyTo table) a) (replyTo table line ∷ []))
-        ∙ sym (ap (λ (k : Cut). textOf (map (replyTo table) (k .whole))) e) in
+        ∙ sym (ap (λ (k : Cut). textOf (map (replyTo table) (k .finished))) e) in
         let m = length-take-le (i + 1) s (omega arith) in
         let d = length-drop read s in
         let t = ap length line-is in

@@ -16,9 +16,9 @@ use Rattle.replies.specs.Table.{table}
 use Rattle.decide.specs.Decide.{afterS, atEndS}
 use Rattle.decide.specs.declared.Next.{Next}
 use Rattle.decide.specs.declared.Next.the-variants.{Go}
-use Rattle.session.specs.Session.{answered, piece}
+use Rattle.session.specs.Session.{returned, piece}
 use Rattle.session.specs.Post.{Passed}
-use Rattle.session.proofs.ReadLaws.{heardOf, answered-is, full, part, behind, behind-passed}
+use Rattle.session.proofs.ReadLaws.{heardOf, returned-is, full, part, behind, behind-passed}
 use Rattle.session.proofs.LoopLaws.{kept-is}
 use Rattle.text.specs.Typing.{KEPT, turnOn, typing}
 use Rattle.text.proofs.TypingLaws.{code-zero, carries-little}
@@ -32,12 +32,12 @@ module _ (have n : ℕ) (first ys b : List ℕ) (got : ℤ) (ended : Bool) (r : 
       Passed (typing table) (length first) (take have first) x b
   turn-passed h f same m en ee t ex =
       let k : Moved (length ys) got = subst (λ (k : ℕ). Moved k got) (sym same) m in
-      let e : ended ≡ atEndS (answered (heardOf got ys)) = ee ∙ ap atEndS (toZ-ofZ w64 got f ∙ sym (answered-is got ys k)) in
-      let u : Turned (turnOn table (atEndS (answered (heardOf got ys))) (take have first ++ piece (heardOf got ys))) r b =
-      subst (λ (y : List ℕ). Turned (turnOn table (atEndS (answered (heardOf got ys))) y) r b) (behind have n first ys got h f same m en)
+      let e : ended ≡ atEndS (returned (heardOf got ys)) = ee ∙ ap atEndS (toZ-ofZ w64 got f ∙ sym (returned-is got ys k)) in
+      let u : Turned (turnOn table (atEndS (returned (heardOf got ys))) (take have first ++ piece (heardOf got ys))) r b =
+      subst (λ (y : List ℕ). Turned (turnOn table (atEndS (returned (heardOf got ys))) y) r b) (behind have n first ys got h f same m en)
       (subst (λ (y : Bool). Turned (turnOn table y (take (have + n) (full have first ys))) r b) e t) in
       behind-passed have n first ys got h f same m en (typing table) x b 0 (r .kept) (r .sent)
-      (sym (code-zero table (atEndS (answered (heardOf got ys))) (take have first ++ piece (heardOf got ys)))) (u .kept) (u .rest) ex
+      (sym (code-zero table (atEndS (returned (heardOf got ys))) (take have first ++ piece (heardOf got ys)))) (u .kept) (u .rest) ex
 
 -- what is carried over is at most 26 bytes
 pub kept-small : (size : ℕ) (rest : List ℕ) (x : Next) (b : List ℕ) → Passed (typing table) size rest x b → (kept : ℕ) → x ≡ Go kept → kept ≤ KEPT

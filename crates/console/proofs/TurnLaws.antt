@@ -59,7 +59,7 @@ module _ (s l o : List ℕ) (d : Done) (p : Replied s d l o) where
   module _ (q : List ℕ) (n : ℕ) (w : Wrote (lastReply (cut s .rest)) (d .written) n o q) where
     pub end-wrote : Wrote (turnOn table true s .bytes) 0 n l q
     end-wrote =
-        let a = cut s .whole in
+        let a = cut s .finished in
         let r = cut s .rest in
         let x : turnOn table false s .bytes ++ lastReply r ≡ turnOn table true s .bytes =
         ap (λ (y : List ℕ). turnOn table false s .bytes ++ y) (sym (last-is r))

@@ -1,4 +1,4 @@
-// A turn of the program: the lines in the input buffer are answered, the replies are sent, and the unfinished line moves to the front.
+// A turn of the program `lines`: the lines in the input buffer are answered, the replies are sent, and the unfinished line moves to the front.
 use crate::port::send;
 use records::Reply;
 use replies::reply_to;

@@ -15,11 +15,11 @@ afterS (negsuc n) code kept sent = Break
 afterS (pos n) code kept false = Break
 afterS (pos n) code kept true = if code =? 1 then Close 1 else (if n =? 0 then Close code else Go kept)
 
--- what closes the output: byte 255 and the code; nothing where 255 stands for no code
+-- what closes the output of `answers`: byte 255 and the code; nothing where 255 stands for no code
 unfoldable pub closingS : ℕ → List ℕ
 closingS code = if code =? 255 then [] else 255 ∷ (code ∷ [])
 
--- what the program gives back, where the closing bytes were taken and where not
+-- what `answers` gives back, where the closing bytes were taken and where not
 abbrev pub endS : ℕ → Bool → ℕ
 endS code sent = if sent then code else 255
 

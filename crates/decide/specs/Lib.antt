@@ -1,2 +1,2 @@
--- What the program decides.
+-- What the programs decide.
 pub mod Decide

@@ -44,7 +44,7 @@ pub struct Last {
     pub length: usize,
 }
 
-// What is written behind the last answer: byte 255 and the stop code, or nothing where there is no code.
+// What `answers` writes behind the last answer: byte 255 and the stop code, or nothing where there is no code.
 pub fn closing(code: u8) -> Last
     ensures { λ r. ⌜ r ≡ record { bytes = 255 ∷ (code ∷ []); length = length (closingS code) } ⌝ }
 {
@@ -55,7 +55,7 @@ pub fn closing(code: u8) -> Last
     Last { bytes, length: 2 }
 }
 
-// What the program gives back: the stop code where the closing bytes were taken.
+// What `answers` gives back: the stop code where the closing bytes were taken.
 pub fn end(code: u8, sent: bool) -> u8
     ensures { λ r. ⌜ r ≡ endS code sent ⌝ }
 {

@@ -1,5 +1,4 @@
--- A text that is typed and its replies, by one computation of the checker from the definitions: README.md's example, with the line that the
--- request of lines shows, and a line of each other name. Assumes nothing.
+-- A text that is typed and its replies, by one computation of the checker from the definitions: README.md's example. Assumes nothing.
 use mathlib.Core.Path.{_≡_, refl}
 use lib.Ieee.{add, sub, mul, div, neg, eq, lt, le, ofInt, ofBits, toBits}
 use Rattle.words.specs.Fabs.{fabsS}

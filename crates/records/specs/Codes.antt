@@ -1,11 +1,11 @@
 -- Why a run stops, as a code.
 use Prim.Native.Nat.{ℕ}
 
--- the requests are used up
+-- what was to be read is used up
 abbrev pub DONE : ℕ
 DONE = 0
 
--- a kind that is in no row
+-- a kind that is in no row; of a text, a line that is bad
 abbrev pub UNKNOWN : ℕ
 UNKNOWN = 1
 
@@ -13,6 +13,6 @@ UNKNOWN = 1
 abbrev pub CUT : ℕ
 CUT = 2
 
--- an answer for which there is no room
+-- no room for what is to be written
 abbrev pub FULL : ℕ
 FULL = 3

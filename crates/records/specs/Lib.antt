@@ -1,4 +1,4 @@
--- What records are and what a run of them is, over any table of kinds. Read in this order.
+-- What records are, and what a run is, by any step and over any table of kinds. Read in this order.
 pub mod Reply
 pub mod Row
 pub mod Codes

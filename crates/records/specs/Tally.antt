@@ -1,4 +1,4 @@
--- What a run counts: records answered, bytes read, bytes written.
+-- What a run counts: records, or lines, that it took, bytes read, bytes written.
 use Prim.Native.Nat.{_+_}
 use Rattle.records.specs.declared.Tally.{Tally}
 

@@ -31,7 +31,7 @@ pub fn write(s: &mut [u8], at: usize, r: Reply)
     put(s, place + r.width, r.more, r.extra);
 }
 
-// How many records a batch answered, and how many bytes it read and wrote.
+// How many records, or lines, a run took, and how many bytes it read and wrote.
 pub struct Tally {
     pub records: usize,
     pub read: usize,
@@ -44,7 +44,8 @@ pub struct Report {
     pub tally: Tally,
 }
 
-// Why a run stopped: what was to be read is used up; a kind that is in no row; an incomplete body; no room for what is to be written.
+// Why a run stopped: what was to be read is used up; a kind that is in no row, or a bad line; an incomplete body; no room for what is to be
+// written.
 pub const DONE: u8 = 0;
 
 pub const UNKNOWN: u8 = 1;

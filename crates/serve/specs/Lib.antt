@@ -1,3 +1,3 @@
--- What the program does. Read in this order.
+-- What the program `answers` does. Read in this order.
 pub mod Session
 pub mod Turn

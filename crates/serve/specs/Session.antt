@@ -1,4 +1,4 @@
--- What the program does in a turn, which makes it a program in turns (session/specs/Session).
+-- What the program `answers` does in a turn, which makes it a program in turns (session/specs/Session).
 use mathlib.Core.List.{List, [], _∷_, _++_}
 use Prim.Native.Nat.{ℕ}
 use lib.ListN.{drop}

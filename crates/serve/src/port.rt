@@ -1,4 +1,4 @@
-// The calls out of the program. No contract can say what C reads and writes, so these say what may be handed to it.
+// The calls out of the program `answers`. No contract can say what C reads and writes, so these say what may be handed to it.
 use libc::STDIN_FILENO;
 use libc::STDOUT_FILENO;
 ghost use mathlib.Core.Path.{_≡_};

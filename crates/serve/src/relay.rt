@@ -1,4 +1,4 @@
-// A turn of the program: what stands in the input buffer is answered, the answers are sent, and the unread rest moves to the front.
+// A turn of the program `answers`: what stands in the input buffer is answered, the answers are sent, and the unread rest moves to the front.
 use crate::port::send;
 use session::to_front;
 use stream::batch;

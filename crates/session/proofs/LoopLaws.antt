@@ -11,7 +11,7 @@ use Rattle.decide.specs.Decide.{endS}
 use Rattle.decide.specs.declared.Next.{Next}
 use Rattle.decide.specs.declared.Next.the-variants.{Go, Close, Break}
 use Rattle.decide.proofs.DecideLaws.{when-go}
-use Rattle.session.specs.Session.{Event, answered, Turn, Program, turnOf, says, session, stopsOr, Stops, Fits}
+use Rattle.session.specs.Session.{Event, returned, Turn, Program, turnOf, says, session, stopsOr, Stops, Fits}
 use Rattle.session.specs.Post.{Passed, Ran, Served}
 
 -- Where the loop stands, with so many turns to go and the carried bytes in rest.
@@ -42,7 +42,7 @@ module _ (P : Program) (size : ℕ) where
       (kept ≡ length (turnOf P rest (p .event) .left)) × (turnOf P rest (p .event) .code ≡ 1 → ⊥)
   kept-is rest x b p kept e =
       let t = turnOf P rest (p .event) in
-      when-go (answered (p .event .heard)) (t .code) (length (t .left)) (p .event .sent) kept (sym (p .next) ∙ e)
+      when-go (returned (p .event .heard)) (t .code) (length (t .left)) (p .event .sent) kept (sym (p .next) ∙ e)
 
   -- another turn, after which the buffer that carries is b
   module _ (turns : ℕ) (rest : List ℕ) (g : Going P size turns rest) (x : Next) (b : List ℕ) (p : Passed P size rest x b) where

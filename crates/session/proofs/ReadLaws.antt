@@ -15,7 +15,7 @@ use Rattle.io.specs.Counts.{clamped}
 use Rattle.libc.specs.Io.{Moved}
 use Rattle.decide.specs.Decide.{afterS}
 use Rattle.decide.specs.declared.Next.{Next}
-use Rattle.session.specs.Session.{Heard, brought, failed, answered, piece, Program}
+use Rattle.session.specs.Session.{Heard, brought, failed, returned, piece, Program}
 use Rattle.session.specs.Post.{Passed}
 
 -- what a read brought that answered so much and left ys behind
@@ -23,9 +23,9 @@ abbrev pub heardOf : ℤ → List ℕ → Heard
 heardOf (pos k) ys = brought (take k ys)
 heardOf (negsuc k) ys = failed
 
-pub answered-is : (got : ℤ) (ys : List ℕ) → Moved (length ys) got → answered (heardOf got ys) ≡ got
-answered-is (pos k) ys m = ap pos (length-take-le k ys m)
-answered-is (negsuc k) ys m = ap negsuc (sym m)
+pub returned-is : (got : ℤ) (ys : List ℕ) → Moved (length ys) got → returned (heardOf got ys) ≡ got
+returned-is (pos k) ys m = ap pos (length-take-le k ys m)
+returned-is (negsuc k) ys m = ap negsuc (sym m)
 
 piece-in : (got : ℤ) (ys : List ℕ) → Moved (length ys) got → length (piece (heardOf got ys)) ≤ length ys
 piece-in (pos k) ys m = omega (arith, length-take-le k ys m)
@@ -57,8 +57,8 @@ module _ (got : ℤ) (ys : List ℕ) (room : ℕ) (fit : SFits w64 got) (same : 
         event = record { heard = h; sent = sent };
         fits = omega (arith, piece-in got ys m);
         next =
-            ex ∙ ap (λ (z : ℤ). afterS z code kept sent) (toZ-ofZ w64 got fit ∙ sym (answered-is got ys m))
-            ∙ ap (λ (k : ℕ). afterS (answered h) k kept sent) ec ∙ ap (λ (k : ℕ). afterS (answered h) (P .turn rest h .code) k sent) ek;
+            ex ∙ ap (λ (z : ℤ). afterS z code kept sent) (toZ-ofZ w64 got fit ∙ sym (returned-is got ys m))
+            ∙ ap (λ (k : ℕ). afterS (returned h) k kept sent) ec ∙ ap (λ (k : ℕ). afterS (returned h) (P .turn rest h .code) k sent) ek;
         carried = ap (λ (k : ℕ). take k b) (sym ek) ∙ eb;
       }
 

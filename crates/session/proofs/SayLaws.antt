@@ -17,7 +17,7 @@ use Rattle.decide.specs.Decide.{afterS}
 use Rattle.decide.specs.declared.Next.{Next}
 use Rattle.decide.specs.declared.Next.the-variants.{Go, Close, Break}
 use Rattle.decide.proofs.DecideLaws.{at-unknown, at-end, at-more, not-broken, when-close, end-elim}
-use Rattle.session.specs.Session.{Heard, brought, failed, answered, piece, Event, Turn, Program, turnOf, nextOf, Said, says, session, stopsOr, Stops, came, delivered, Some, FailsIn, Failing, Fits}
+use Rattle.session.specs.Session.{Heard, brought, failed, returned, piece, Event, Turn, Program, turnOf, nextOf, Said, says, session, stopsOr, Stops, came, delivered, Some, FailsIn, Failing, Fits}
 use Rattle.session.specs.Post.{Ran, Served}
 
 pub one-or : (k : ℕ) → (k ≡ 1) ⊎ (k ≡ 1 → ⊥)
@@ -109,7 +109,7 @@ module _ (P : Program) where
 
   -- where it closes, it is with the turn's code
   close-code : (rest : List ℕ) (e : Event) (c : ℕ) → nextOf P rest e ≡ Close c → c ≡ turnOf P rest e .code
-  close-code rest e c = when-close (answered (e .heard)) (turnOf P rest e .code) (length (turnOf P rest e .left)) (e .sent) c
+  close-code rest e c = when-close (returned (e .heard)) (turnOf P rest e .code) (length (turnOf P rest e .left)) (e .sent) c
 
   said-front : (x : Next) (b all follows : List ℕ) (later : Said) → ((c : ℕ) → x ≡ Close c → c ≡ 255 → ⊥) → all ≡ b ++ follows →
       Front follows later → Front all (says P x b later)

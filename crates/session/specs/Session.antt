@@ -14,10 +14,10 @@ pub data Heard : Type 0 where
   brought : List ℕ → Heard
   failed : Heard
 
--- what it answered
-abbrev pub answered : Heard → ℤ
-answered (brought p) = pos (length p)
-answered failed = negsuc 0
+-- what the read returned: how many bytes, or -1
+abbrev pub returned : Heard → ℤ
+returned (brought p) = pos (length p)
+returned failed = negsuc 0
 
 abbrev pub piece : Heard → List ℕ
 piece (brought p) = p
@@ -43,7 +43,7 @@ abbrev pub turnOf : Program → List ℕ → Event → Turn
 turnOf P rest e = P .turn rest (e .heard)
 
 abbrev pub nextOf : Program → List ℕ → Event → Next
-nextOf P rest e = afterS (answered (e .heard)) (turnOf P rest e .code) (length (turnOf P rest e .left)) (e .sent)
+nextOf P rest e = afterS (returned (e .heard)) (turnOf P rest e .code) (length (turnOf P rest e .left)) (e .sent)
 
 -- All bytes that are handed to write, in their order, and the code of the end, 255 for none.
 pub record Said : Type 0 where
@@ -61,12 +61,13 @@ unfoldable pub session : Program → List ℕ → List Event → Said
 session P rest [] = record { bytes = []; code = 255 }
 session P rest (e ∷ es) = says P (nextOf P rest e) (turnOf P rest e .bytes) (session P (turnOf P rest e .left) es)
 
--- Among these events is one at which the program stops.
+-- it stops here, or later
 abbrev pub stopsOr : Next → Type 0 → Type 0
 stopsOr (Go kept) later = later
 stopsOr (Close code) later = Unit
 stopsOr Break later = Unit
 
+-- Among these events is one at which the program stops.
 unfoldable pub Stops : Program → List ℕ → List Event → Type 0
 Stops P rest [] = ⊥
 Stops P rest (e ∷ es) = stopsOr (nextOf P rest e) (Stops P (turnOf P rest e .left) es)

@@ -72,8 +72,8 @@ module _ (T : List Row) where
   pub zero-is-all : ZeroIsAll T
   zero-is-all = program.zero-is-all T
 
-  pub fails-alone : BreaksByFailure T
-  fails-alone = program.fails-alone T
+  pub breaks-by-failure : BreaksByFailure T
+  breaks-by-failure = program.breaks-by-failure T
 
   pub carries-little : CarriesLittle T
   carries-little = program.carries-little T

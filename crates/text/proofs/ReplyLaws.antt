@@ -170,12 +170,11 @@ unfolding shown bytesOf
 shows-value r h =
     let w = r .width in
     let b = r .bits in
-    let x = hex (2 * w) b in
-    let d = digits w b in
-    ap numberS (take-at x (signText r) (2 * w) (length-hex (2 * w) b))
-    ∙ number-mod (2 * w) b (omega arith)
-    ∙ ap (λ (m : ℕ). Is (b % m)) (two-a-byte w)
-    ∙ sym (ap Is (word-rest w b (digits (r .more) (r .extra))))
+    let x = hex (2 * w) b in (
+      refl,
+      ap numberS (take-at x (signText r) (2 * w) (length-hex (2 * w) b)) ∙ number-mod (2 * w) b (omega arith)
+          ∙ ap (λ (m : ℕ). Is (b % m)) (two-a-byte w) ∙ sym (ap Is (word-rest w b (digits (r .more) (r .extra)))),
+    )
 
 sign-at : (r : Reply) → drop (1 + 2 * r .width) (shown r) ≡ signText r
 unfolding shown

@@ -63,10 +63,10 @@ text-append (l ∷ a) b = ap (λ (x : List ℕ). closed l ++ x) (text-append a b
 
 -- a text so far, from its front on
 abbrev shut : Cut → Cut
-shut k = record { whole = [] ∷ k .whole; rest = k .rest }
+shut k = record { finished = [] ∷ k .finished; rest = k .rest }
 
 abbrev grown : ℕ → Cut → Cut
-grown c k = before c (k .whole) (k .rest)
+grown c k = before c (k .finished) (k .rest)
 
 cut-newline : (c : ℕ) (s : List ℕ) → c ≡ NEWLINE → cut (c ∷ s) ≡ shut (cut s)
 unfolding cut
@@ -84,59 +84,59 @@ by-byte P c s f g = ⊎-elim (λ e. subst P (sym (cut-newline c s e)) f) (λ h. 
 pub rest-free : (s : List ℕ) → Free (cut s .rest)
 unfolding cut
 rest-free [] = tt
-rest-free (c ∷ s) = by-byte (λ k. Free (k .rest)) c s (rest-free s) (λ h. front (rest-free s) h (cut s .whole))
+rest-free (c ∷ s) = by-byte (λ k. Free (k .rest)) c s (rest-free s) (λ h. front (rest-free s) h (cut s .finished))
   where
     front : Free (cut s .rest) → (c ≡ NEWLINE → ⊥) → (a : List (List ℕ)) → Free (before c a (cut s .rest) .rest)
     front f h [] = (h, f)
     front f h (l ∷ ls) = f
 
-pub whole-free : (s : List ℕ) → AllFree (cut s .whole)
+pub whole-free : (s : List ℕ) → AllFree (cut s .finished)
 unfolding cut
 whole-free [] = tt
-whole-free (c ∷ s) = by-byte (λ k. AllFree (k .whole)) c s (tt, whole-free s) (λ h. front h (cut s .whole) (whole-free s))
+whole-free (c ∷ s) = by-byte (λ k. AllFree (k .finished)) c s (tt, whole-free s) (λ h. front h (cut s .finished) (whole-free s))
   where
-    front : (c ≡ NEWLINE → ⊥) → (a : List (List ℕ)) → AllFree a → AllFree (before c a (cut s .rest) .whole)
+    front : (c ≡ NEWLINE → ⊥) → (a : List (List ℕ)) → AllFree a → AllFree (before c a (cut s .rest) .finished)
     front h [] f = tt
     front h (l ∷ ls) f = ((h, f .0), f .1)
 
 -- nothing is lost: the finished lines, each with its newline, and the unfinished one are the text
-pub cut-all : (s : List ℕ) → textOf (cut s .whole) ++ cut s .rest ≡ s
+pub cut-all : (s : List ℕ) → textOf (cut s .finished) ++ cut s .rest ≡ s
 unfolding cut textOf
 cut-all [] = refl
 cut-all (c ∷ s) = ⊎-elim
-    (λ e. ap (λ (k : Cut). textOf (k .whole) ++ k .rest) (cut-newline c s e) ∙ ap (λ (x : List ℕ). NEWLINE ∷ x) (cut-all s) ∙ ap (λ (x : ℕ). x ∷ s) (sym e))
-    (λ h. ap (λ (k : Cut). textOf (k .whole) ++ k .rest) (cut-other c s h) ∙ front (cut s .whole) ∙ ap (λ (x : List ℕ). c ∷ x) (cut-all s))
+    (λ e. ap (λ (k : Cut). textOf (k .finished) ++ k .rest) (cut-newline c s e) ∙ ap (λ (x : List ℕ). NEWLINE ∷ x) (cut-all s) ∙ ap (λ (x : ℕ). x ∷ s) (sym e))
+    (λ h. ap (λ (k : Cut). textOf (k .finished) ++ k .rest) (cut-other c s h) ∙ front (cut s .finished) ∙ ap (λ (x : List ℕ). c ∷ x) (cut-all s))
     (newline-or c)
   where
-    front : (a : List (List ℕ)) → textOf (before c a (cut s .rest) .whole) ++ before c a (cut s .rest) .rest ≡ c ∷ (textOf a ++ cut s .rest)
+    front : (a : List (List ℕ)) → textOf (before c a (cut s .rest) .finished) ++ before c a (cut s .rest) .rest ≡ c ∷ (textOf a ++ cut s .rest)
     front [] = refl
     front (l ∷ ls) = refl
 
 -- a line so far, and one that is finished at the front
-pub cut-free : (l : List ℕ) → Free l → cut l ≡ record { whole = []; rest = l }
+pub cut-free : (l : List ℕ) → Free l → cut l ≡ record { finished = []; rest = l }
 unfolding cut
 cut-free [] f = refl
 cut-free (c ∷ l) f = cut-other c l (f .0) ∙ ap (grown c) (cut-free l (f .1))
 
-pub cut-closed : (l s : List ℕ) → Free l → cut (closed l ++ s) ≡ record { whole = l ∷ cut s .whole; rest = cut s .rest }
+pub cut-closed : (l s : List ℕ) → Free l → cut (closed l ++ s) ≡ record { finished = l ∷ cut s .finished; rest = cut s .rest }
 cut-closed [] s f = cut-newline NEWLINE s refl
 cut-closed (c ∷ l) s f = cut-other c (closed l ++ s) (f .0) ∙ ap (grown c) (cut-closed l s (f .1))
 
 -- bytes at the front of a text so far
 abbrev pub grafted : List ℕ → List (List ℕ) → List ℕ → Cut
-grafted u [] r = record { whole = []; rest = u ++ r }
-grafted u (l ∷ ls) r = record { whole = (u ++ l) ∷ ls; rest = r }
+grafted u [] r = record { finished = []; rest = u ++ r }
+grafted u (l ∷ ls) r = record { finished = (u ++ l) ∷ ls; rest = r }
 
 abbrev pub graft : List ℕ → Cut → Cut
-graft u k = grafted u (k .whole) (k .rest)
+graft u k = grafted u (k .finished) (k .rest)
 
 pub cut-front : (u s : List ℕ) → Free u → cut (u ++ s) ≡ graft u (cut s)
-cut-front [] s f = sym (none (cut s .whole) (cut s .rest))
+cut-front [] s f = sym (none (cut s .finished) (cut s .rest))
   where
-    none : (a : List (List ℕ)) (r : List ℕ) → grafted [] a r ≡ record { whole = a; rest = r }
+    none : (a : List (List ℕ)) (r : List ℕ) → grafted [] a r ≡ record { finished = a; rest = r }
     none [] r = refl
     none (l ∷ ls) r = refl
-cut-front (c ∷ u) s f = cut-other c (u ++ s) (f .0) ∙ ap (grown c) (cut-front u s (f .1)) ∙ more (cut s .whole) (cut s .rest)
+cut-front (c ∷ u) s f = cut-other c (u ++ s) (f .0) ∙ ap (grown c) (cut-front u s (f .1)) ∙ more (cut s .finished) (cut s .rest)
   where
     more : (a : List (List ℕ)) (r : List ℕ) → grown c (grafted u a r) ≡ grafted (c ∷ u) a r
     more [] r = refl
@@ -144,18 +144,18 @@ cut-front (c ∷ u) s f = cut-other c (u ++ s) (f .0) ∙ ap (grown c) (cut-fron
 
 -- A text and more of it: the finished lines stay, and the unfinished one goes on.
 abbrev pub joined : List (List ℕ) → Cut → Cut
-joined a k = record { whole = a ++ k .whole; rest = k .rest }
+joined a k = record { finished = a ++ k .finished; rest = k .rest }
 
-pub cut-append : (s t : List ℕ) → cut (s ++ t) ≡ joined (cut s .whole) (cut (cut s .rest ++ t))
+pub cut-append : (s t : List ℕ) → cut (s ++ t) ≡ joined (cut s .finished) (cut (cut s .rest ++ t))
 unfolding cut
 cut-append [] t = refl
 cut-append (c ∷ s) t = ⊎-elim
     (λ e. cut-newline c (s ++ t) e ∙ ap shut (cut-append s t) ∙ sym (ap next (cut-newline c s e)))
-    (λ h. cut-other c (s ++ t) h ∙ ap (grown c) (cut-append s t) ∙ front h (cut s .whole) (cut s .rest) ∙ sym (ap next (cut-other c s h)))
+    (λ h. cut-other c (s ++ t) h ∙ ap (grown c) (cut-append s t) ∙ front h (cut s .finished) (cut s .rest) ∙ sym (ap next (cut-other c s h)))
     (newline-or c)
   where
     next : Cut → Cut
-    next k = joined (k .whole) (cut (k .rest ++ t))
+    next k = joined (k .finished) (cut (k .rest ++ t))
 
     front : (c ≡ NEWLINE → ⊥) → (a : List (List ℕ)) (r : List ℕ) → grown c (joined a (cut (r ++ t))) ≡ next (before c a r)
     front h [] r = sym (cut-other c (r ++ t) h)
@@ -167,16 +167,16 @@ lastLine [] = []
 lastLine (c ∷ l) = (c ∷ l) ∷ []
 
 -- the lines of a text are those that are finished, and the last
-pub lines-cut : (s : List ℕ) → lines s ≡ cut s .whole ++ lastLine (cut s .rest)
+pub lines-cut : (s : List ℕ) → lines s ≡ cut s .finished ++ lastLine (cut s .rest)
 unfolding cut lines
 lines-cut [] = refl
 lines-cut (c ∷ s) = ⊎-elim
     (λ e. lines-newline c s e ∙ ap (λ (x : List (List ℕ)). [] ∷ x) (lines-cut s) ∙ sym (ap all (cut-newline c s e)))
-    (λ h. lines-other c s h ∙ ap (onto c) (lines-cut s) ∙ front (cut s .whole) (cut s .rest) ∙ sym (ap all (cut-other c s h)))
+    (λ h. lines-other c s h ∙ ap (onto c) (lines-cut s) ∙ front (cut s .finished) (cut s .rest) ∙ sym (ap all (cut-other c s h)))
     (newline-or c)
   where
     all : Cut → List (List ℕ)
-    all k = k .whole ++ lastLine (k .rest)
+    all k = k .finished ++ lastLine (k .rest)
 
     front : (a : List (List ℕ)) (r : List ℕ) → onto c (a ++ lastLine r) ≡ all (before c a r)
     front [] [] = refl
@@ -185,7 +185,7 @@ lines-cut (c ∷ s) = ⊎-elim
 
 -- every line is free of newlines
 pub lines-free : (s : List ℕ) → AllFree (lines s)
-lines-free s = subst AllFree (sym (lines-cut s)) (both (cut s .whole) (cut s .rest) (whole-free s) (rest-free s))
+lines-free s = subst AllFree (sym (lines-cut s)) (both (cut s .finished) (cut s .rest) (whole-free s) (rest-free s))
   where
     one : (r : List ℕ) → Free r → AllFree (lastLine r)
     one [] f = tt
@@ -199,9 +199,9 @@ lines-free s = subst AllFree (sym (lines-cut s)) (both (cut s .whole) (cut s .re
 pub text-lines : (s : List ℕ) → textOf (lines s) ≡ ended s
 unfolding textOf
 text-lines s =
-    ap textOf (lines-cut s) ∙ text-append (cut s .whole) (lastLine (cut s .rest))
-    ∙ ap (λ (x : List ℕ). textOf (cut s .whole) ++ x) (last (cut s .rest))
-    ∙ sym (append-assoc (textOf (cut s .whole)) (cut s .rest) (supplied (cut s .rest)))
+    ap textOf (lines-cut s) ∙ text-append (cut s .finished) (lastLine (cut s .rest))
+    ∙ ap (λ (x : List ℕ). textOf (cut s .finished) ++ x) (last (cut s .rest))
+    ∙ sym (append-assoc (textOf (cut s .finished)) (cut s .rest) (supplied (cut s .rest)))
     ∙ ap (λ (x : List ℕ). x ++ supplied (cut s .rest)) (cut-all s)
   where
     last : (r : List ℕ) → textOf (lastLine r) ≡ r ++ supplied r

@@ -2,8 +2,10 @@
 --     request-lawful, line-lawful  Both steps are lawful, over any table of names.
 --     forth-good      A text of good lines is turned to the end, into the requests of its lines in their order.
 --     forth-bad       Where a line is bad the run stops with code 1, behind the requests of the lines before it, and leaves it unread.
+--     forth-full      Where a good line's request has no room it stops with code 3, behind those before it, and leaves the line unread.
 --     back-good       The requests of good lines are turned back into those lines, each with its newline.
 --     there-and-back  So a text of good lines comes back as it was, with its last newline supplied.
+--     back-stops      Behind the requests of good lines: a kind without a name, a cut body, a line without room, each with its code.
 --     one-text        So no two texts of good lines have the same requests, but for a last newline.
 -- Assumes nothing.
 use mathlib.Core.Path.{_≡_, refl, sym, ap, _∙_, subst}

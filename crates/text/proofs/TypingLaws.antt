@@ -5,7 +5,7 @@
 --     broken-is-front     Where something fails, those that were handed to write are a front of the replies to what was read.
 --     gives-back          The program gives back 0, or 255.
 --     zero-is-all         Its code is 0 only where the input ended and nothing failed before.
---     fails-alone         It gives back 255 only where something failed, or after 2 ^ 64 - 1 turns.
+--     breaks-by-failure   It gives back 255 only where something failed, or after 2 ^ 64 - 1 turns.
 --     carries-little      It carries over 26 bytes at most.
 use mathlib.Core.Path.{_≡_, refl, sym, ap, _∙_, subst}
 use mathlib.Core.Bool.{Bool, true, false}
@@ -21,8 +21,9 @@ use lib.Seq.{take-all, take-append-le, length-take-le}
 use Rattle.records.specs.Row.{Row}
 use Rattle.records.specs.Pieces.{whole}
 use Rattle.decide.specs.Decide.{atEndS}
-use Rattle.session.specs.Session.{Heard, brought, failed, answered, piece, Event, Turn, turnOf, Said, session, came, delivered, arriving, Some}
-use Rattle.session.proofs.SayLaws.{Front, end-came, more-came, breaks-by-failure, ends-whole, front-end, front-of, coded}
+use Rattle.session.specs.Session.{Heard, brought, failed, returned, piece, Event, Turn, turnOf, Said, session, came, delivered, arriving, Some}
+use Rattle.session.proofs.SayLaws.{Front, end-came, more-came, ends-whole, front-end, front-of, coded}
+use Rattle.session.proofs.SayLaws as say
 use Rattle.text.specs.Text.{lines, textOf, Cut, cut}
 use Rattle.text.specs.Reply.{replyTo, repliesTo}
 use Rattle.text.specs.Typing.{KEPT, turnOn, typing}
@@ -56,21 +57,21 @@ module _ (T : List Row) where
 
   -- the replies to the lines of a text so far
   abbrev said : Cut → List ℕ
-  said k = textOf (map (replyTo T) (k .whole))
+  said k = textOf (map (replyTo T) (k .finished))
 
   abbrev saidAll : Cut → List ℕ
-  saidAll k = textOf (map (replyTo T) (k .whole ++ lastLine (k .rest)))
+  saidAll k = textOf (map (replyTo T) (k .finished ++ lastLine (k .rest)))
 
   last-front : (u r : List ℕ) → map (replyTo T) (lastLine (take KEPT u ++ r)) ≡ map (replyTo T) (lastLine (u ++ r))
   last-front [] r = refl
   last-front (c ∷ u) r = ap (λ (x : List ℕ). x ∷ []) (reply-front (c ∷ u) r)
 
   graft-said : (u : List ℕ) (k : Cut) → (said (graft (take KEPT u) k) ≡ said (graft u k)) × ((saidAll (graft (take KEPT u) k) ≡ saidAll (graft u k)) × (take KEPT (graft (take KEPT u) k .rest) ≡ take KEPT (graft u k .rest)))
-  graft-said u k = by-lines (k .whole) (k .rest)
+  graft-said u k = by-lines (k .finished) (k .rest)
     where
-      by-lines : (a : List (List ℕ)) (r : List ℕ) → (said (graft (take KEPT u) (record { whole = a; rest = r })) ≡ said (graft u (record { whole = a; rest = r })))
-          × ((saidAll (graft (take KEPT u) (record { whole = a; rest = r })) ≡ saidAll (graft u (record { whole = a; rest = r })))
-          × (take KEPT (graft (take KEPT u) (record { whole = a; rest = r }) .rest) ≡ take KEPT (graft u (record { whole = a; rest = r }) .rest)))
+      by-lines : (a : List (List ℕ)) (r : List ℕ) → (said (graft (take KEPT u) (record { finished = a; rest = r })) ≡ said (graft u (record { finished = a; rest = r })))
+          × ((saidAll (graft (take KEPT u) (record { finished = a; rest = r })) ≡ saidAll (graft u (record { finished = a; rest = r })))
+          × (take KEPT (graft (take KEPT u) (record { finished = a; rest = r }) .rest) ≡ take KEPT (graft u (record { finished = a; rest = r }) .rest)))
       by-lines [] r = (refl, (ap textOf (last-front u r), take-front KEPT u r))
       by-lines (l ∷ ls) r = (
         ap (λ (x : List ℕ). textOf (x ∷ map (replyTo T) ls)) (reply-front u l),
@@ -97,12 +98,12 @@ module _ (T : List Row) where
   pub replies-append : (s t : List ℕ) → repliesTo T (s ++ t) ≡ said (cut s) ++ repliesTo T (cut s .rest ++ t)
   replies-append s t =
       let k = cut (cut s .rest ++ t) in
-      let e : lines (s ++ t) ≡ cut s .whole ++ lines (cut s .rest ++ t) =
-      lines-cut (s ++ t) ∙ ap (λ (c : Cut). c .whole ++ lastLine (c .rest)) (cut-append s t) ∙ append-assoc (cut s .whole) (k .whole) (lastLine (k .rest))
-      ∙ ap (λ (x : List (List ℕ)). cut s .whole ++ x) (sym (lines-cut (cut s .rest ++ t))) in
+      let e : lines (s ++ t) ≡ cut s .finished ++ lines (cut s .rest ++ t) =
+      lines-cut (s ++ t) ∙ ap (λ (c : Cut). c .finished ++ lastLine (c .rest)) (cut-append s t) ∙ append-assoc (cut s .finished) (k .finished) (lastLine (k .rest))
+      ∙ ap (λ (x : List (List ℕ)). cut s .finished ++ x) (sym (lines-cut (cut s .rest ++ t))) in
       ap (λ (x : List (List ℕ)). textOf (map (replyTo T) x)) e
-      ∙ ap textOf (map-append (replyTo T) (cut s .whole) (lines (cut s .rest ++ t)))
-      ∙ text-append (map (replyTo T) (cut s .whole)) (map (replyTo T) (lines (cut s .rest ++ t)))
+      ∙ ap textOf (map-append (replyTo T) (cut s .finished) (lines (cut s .rest ++ t)))
+      ∙ text-append (map (replyTo T) (cut s .finished)) (map (replyTo T) (lines (cut s .rest ++ t)))
 
   turn-over : (u p : List ℕ) → Free u → turnOn T false (take KEPT u ++ p) ≡ turnOn T false (u ++ p)
   turn-over u p f =
@@ -154,7 +155,7 @@ module _ (T : List Row) where
       let k = cut (v ++ whole ps) in
       ap (λ (x : Said). x .bytes) (goes-on u p (arriving ps) f (s .0))
       ∙ ap (λ (x : List ℕ). said (cut (u ++ p)) ++ x) (so-far v ps (rest-free (u ++ p)) (s .1))
-      ∙ sym (ap textOf (map-append (replyTo T) (cut (u ++ p) .whole) (k .whole)) ∙ text-append (map (replyTo T) (cut (u ++ p) .whole)) (map (replyTo T) (k .whole)))
+      ∙ sym (ap textOf (map-append (replyTo T) (cut (u ++ p) .finished) (k .finished)) ∙ text-append (map (replyTo T) (cut (u ++ p) .finished)) (map (replyTo T) (k .finished)))
       ∙ sym (ap said (ap cut (sym (append-assoc u p (whole ps))) ∙ cut-append (u ++ p) (whole ps)))
 
   pub at-once : AtOnce T
@@ -163,7 +164,7 @@ module _ (T : List Row) where
   -- ---- where something fails
 
   -- a turn over u and the bytes p, and what should be said behind it
-  front-more : (u p : List ℕ) (h : Heard) (sent : Bool) (es : List Event) → Free u → piece h ≡ p → atEndS (answered h) ≡ false →
+  front-more : (u p : List ℕ) (h : Heard) (sent : Bool) (es : List Event) → Free u → piece h ≡ p → atEndS (returned h) ≡ false →
       ((v : List ℕ) → Free v → Front (repliesTo T (v ++ typed es)) (session (typing T) (take KEPT v) es)) →
       Front (repliesTo T (u ++ (p ++ typed es))) (session (typing T) (take KEPT u) (record { heard = h; sent = sent } ∷ es))
   front-more u p h sent es f ep ee later =
@@ -196,7 +197,7 @@ module _ (T : List Row) where
   code-zero false s = refl
 
   turn-zero : (rest : List ℕ) (h : Heard) → typing T .turn rest h .code ≡ 0
-  turn-zero rest h = code-zero (atEndS (answered h)) (rest ++ piece h)
+  turn-zero rest h = code-zero (atEndS (returned h)) (rest ++ piece h)
 
   pub gives-back : GivesBack T
   gives-back size r n =
@@ -209,8 +210,8 @@ module _ (T : List Row) where
       let q = w .1 .1 in
       (w .0, (w .1 .0, (q .0, (q .1, ap (λ (x : List Event). session (typing T) [] x .bytes) (q .1) ∙ ap (λ (x : Said). x .bytes) (by-pieces [] (w .0) (w .1 .0) tt (q .0))))))
 
-  pub fails-alone : BreaksByFailure T
-  fails-alone = breaks-by-failure (typing T) (λ rest h y. omega (arith, turn-zero rest h, y))
+  pub breaks-by-failure : BreaksByFailure T
+  breaks-by-failure = say.breaks-by-failure (typing T) (λ rest h y. omega (arith, turn-zero rest h, y))
 
   -- what is carried over is at most 26 bytes
   left-small : (b : Bool) (s : List ℕ) → length (turnOn T b s .left) ≤ KEPT
@@ -218,4 +219,4 @@ module _ (T : List Row) where
   left-small false s = let l = length-take KEPT (cut s .rest) in omega arith
 
   pub carries-little : CarriesLittle T
-  carries-little rest h = left-small (atEndS (answered h)) (rest ++ piece h)
+  carries-little rest h = left-small (atEndS (returned h)) (rest ++ piece h)

@@ -93,17 +93,18 @@ ForthBad =
     (s : List ℕ) (room : ℕ) (a : List (List ℕ)) (l : List ℕ) (b : List (List ℕ)) → lines s ≡ a ++ (l ∷ b) → Good a → asked names l ≡ Bad →
     length (requestsOf a) ≤ room → StoppedAt UNKNOWN s room a l b
 
--- The first good line whose request has no room stops it with code 3.
+-- Behind good lines whose requests have room, a good line whose own has none stops it with code 3.
 abbrev pub ForthFull : Type 0
 ForthFull =
     (s : List ℕ) (room : ℕ) (a : List (List ℕ)) (l : List ℕ) (b : List (List ℕ)) (k v : ℕ) → lines s ≡ a ++ (l ∷ b) → Good a → asked names l ≡ Ask k v →
     length (requestsOf a) ≤ room → room < length (requestsOf a) + (1 + shapeOf k .body) → StoppedAt FULL s room a l b
 
--- a text with its last newline, which is supplied where it is missing: where the unfinished line has a byte
+-- the newline that is missing behind an unfinished line, if that has a byte
 abbrev pub supplied : List ℕ → List ℕ
 supplied [] = []
 supplied (c ∷ l) = NEWLINE ∷ []
 
+-- a text with its last newline
 abbrev pub ended : List ℕ → List ℕ
 ended s = s ++ supplied (cut s .rest)
 
@@ -169,11 +170,14 @@ SameAnswer T =
     ((k : ℕ) → rowIn T k .width ≡ shapeOf k .body) → (s : List ℕ) (k b room : ℕ) → asked names s ≡ Ask k b →
     length (bytesOf (rowIn T k .reply b)) ≤ room → Shown T s k b room
 
--- Behind a space, an answer as text shows two digits a byte of its value: they say the number that the bytes of its value make.
+-- An answer as text begins with a space. Behind it, where the value has at most 8 bytes, stand two digits for each of them, and they say the
+-- number that these bytes make.
 abbrev pub ShowsValue : Type 0
-ShowsValue = (r : Reply) → r .width ≤ 8 → numberS (take (2 * r .width) (drop 1 (shown r))) ≡ Is (word (r .width) (drop 1 (bytesOf r)))
+ShowsValue =
+    (r : Reply) → r .width ≤ 8 →
+    (take 1 (shown r) ≡ ascii " ") × (numberS (take (2 * r .width) (drop 1 (shown r))) ≡ Is (word (r .width) (drop 1 (bytesOf r))))
 
--- Behind them stands nothing where it has no sign byte; a space and a + where that is 1; and else a space and a -.
+-- Behind them stands nothing where `more` is 0; else a space and a + where `extra`, the sign byte, is 1, and a space and a - where it is not.
 abbrev pub ShowsSign : Type 0
 ShowsSign =
     (r : Reply) →
@@ -186,11 +190,11 @@ ShowsSign =
 abbrev pub CutsDoNotShow : List Row → Type 0
 CutsDoNotShow T = (ps : List (List ℕ)) → Some ps → session (typing T) [] (delivered ps) ≡ record { bytes = repliesTo T (whole ps); code = 0 }
 
--- After each piece, what is said are the replies to the lines that are finished, and no others.
+-- As long as nothing fails: after each piece, what is said are the replies to the lines that are finished, and no others.
 abbrev pub AtOnce : List Row → Type 0
-AtOnce T = (ps : List (List ℕ)) → Some ps → session (typing T) [] (arriving ps) .bytes ≡ textOf (map (replyTo T) (cut (whole ps) .whole))
+AtOnce T = (ps : List (List ℕ)) → Some ps → session (typing T) [] (arriving ps) .bytes ≡ textOf (map (replyTo T) (cut (whole ps) .finished))
 
--- what was read before the input ended
+-- all that the reads of these events bring, until one brings no byte; one that fails brings nothing
 abbrev pub typedOf : Heard → List ℕ → List ℕ
 typedOf failed later = later
 typedOf (brought []) later = []
@@ -200,7 +204,7 @@ abbrev pub typed : List Event → List ℕ
 typed [] = []
 typed (e ∷ es) = typedOf (e .heard) (typed es)
 
--- Where something fails, what is said is a front of the replies to what was read.
+-- Where the program breaks off, what is said is a front of the replies to what the reads bring.
 abbrev pub BrokenIsFront : List Row → Type 0
 BrokenIsFront T = (es : List Event) → session (typing T) [] es .code ≡ 255 → (tail : List ℕ) × (repliesTo T (typed es) ≡ session (typing T) [] es .bytes ++ tail)
 

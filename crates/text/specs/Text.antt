@@ -29,14 +29,14 @@ textOf (l ∷ ls) = closed l ++ textOf ls
 
 -- A text so far: the lines that are finished by a newline, and the bytes of the one that is not.
 pub record Cut : Type 0 where
-  pub whole : List (List ℕ)
+  pub finished : List (List ℕ)
   pub rest : List ℕ
 
 -- a byte at the front of it
 abbrev pub before : ℕ → List (List ℕ) → List ℕ → Cut
-before c [] rest = record { whole = []; rest = c ∷ rest }
-before c (l ∷ ls) rest = record { whole = (c ∷ l) ∷ ls; rest = rest }
+before c [] rest = record { finished = []; rest = c ∷ rest }
+before c (l ∷ ls) rest = record { finished = (c ∷ l) ∷ ls; rest = rest }
 
 unfoldable pub cut : List ℕ → Cut
-cut [] = record { whole = []; rest = [] }
-cut (c ∷ s) = if c =? NEWLINE then record { whole = [] ∷ cut s .whole; rest = cut s .rest } else before c (cut s .whole) (cut s .rest)
+cut [] = record { finished = []; rest = [] }
+cut (c ∷ s) = if c =? NEWLINE then record { finished = [] ∷ cut s .finished; rest = cut s .rest } else before c (cut s .finished) (cut s .rest)

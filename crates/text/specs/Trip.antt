@@ -28,8 +28,8 @@ abbrev pub asRequest : ℕ → ℕ → Asked → Out
 asRequest n room Bad = stop UNKNOWN
 asRequest n room (Ask k b) = if room <? length (recordOf k b) then stop FULL else took n (recordOf k b)
 
--- The first line of a text is read with its newline: its first byte and then as many bytes as it has itself. Where it has none it is all of the
--- text, and behind its first byte there is one less.
+-- The first line l is read with its newline: the first byte of the text, which may be that newline, and length l more. Where there is no newline
+-- l is all of the text, and behind its first byte are length s bytes.
 unfoldable pub toRequest : List Name → List ℕ → ℕ → Out
 toRequest N [] room = stop DONE
 toRequest N (c ∷ s) room = let l = firstLine (c ∷ s) in asRequest (min (length l) (length s)) room (asked N l)
