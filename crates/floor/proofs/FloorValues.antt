@@ -1,7 +1,8 @@
 -- floor by the value of x = ±d / w, over the format:
 --   `stays`: a whole x stays, and has the value of its whole part (`whole-value`); `falls`: any other goes to the y whose size is next (`sizeBelow`);
 --   `floor-part`, `floor-plus`: the value of the floor, of an x that is not whole and of one with no minus sign;
---   `floor-same`, `floor-differs`, `floor-whole`: the test x == floor(x) holds of the whole numbers and of no others;
+--   `rest-same`: two fractions of one value both leave a remainder, or neither does;
+--   `floor-own`, `floor-same`, `floor-differs`, `floor-whole`: the test x == floor(x) holds of the whole numbers and of no others;
 --   `floor-at-most`: the floor is at most x; `floor-inf`: an infinity stays; `floor-number`: the floor of a number is a number.
 -- Assumes nothing.
 use mathlib.Core.Path.{_≡_, refl, sym, ap, _∙_, subst}
@@ -26,7 +27,7 @@ use Rattle.rounding.proofs.Exact.{round-at-most}
 use Rattle.floor.specs.Floor.{floorS, below}
 
 -- ---- floor of an x whose size is d / w, for any such fraction
--- equal fractions leave remainders in the same proportion, so both leave none or neither does
+-- equal fractions leave remainders in the same proportion
 rests : (a b c d q : ℕ) → a / b ≡ q → c / d ≡ q → a * d ≡ c * b → a % b * d ≡ c % d * b
 rests a b c d q e f h =
     let x : q * b * d + a % b * d ≡ a * d = sym (add-mul (q * b) (a % b) d) ∙ ap (λ (z : ℕ). z * d) (ap (λ (z : ℕ). z * b + a % b) (sym e) ∙ div-add-mod' a b) in
@@ -40,11 +41,15 @@ both zero (suc t) b d B D h = absurd (lt-irrefl 0 (subst (λ (n : ℕ). 0 < n) (
 both (suc r) zero b d B D h = absurd (lt-irrefl 0 (subst (λ (n : ℕ). 0 < n) (h ∙ zero-mul b) (mul-pos (zero-lt-suc r) D)))
 both (suc r) (suc t) b d B D h = ne-eqb (suc r) 0 (λ e. omega (arith, e)) ∙ sym (ne-eqb (suc t) 0 (λ e. omega (arith, e)))
 
+-- so both leave none or neither does
+pub rest-same : (a b c d : ℕ) → 0 < b → 0 < d → a * d ≡ c * b → eqb (a % b) 0 ≡ eqb (c % d) 0
+rest-same a b c d B D h = both (a % b) (c % d) b d B D (rests a b c d (c / d) (div-same a b c d B D h) refl h)
+
 floor-at : (f : Format) (x : Float) (s : Bool) (d w : ℕ) → 0 < w → HasValue x s d w → floorS f x ≡ cond (eqb (d % w) 0) x (ofInt f (below s (d / w)))
 unfolding floorS
 floor-at f (fin t m e) s d w W v =
     let q = div-same (m * up e) (down e) d w (down-pos e) W (v .1) in
-    let r = both _ _ (down e) w (down-pos e) W (rests (m * up e) (down e) d w (d / w) q refl (v .1)) in
+    let r = rest-same (m * up e) (down e) d w (down-pos e) W (v .1) in
     ap (λ (k : Bool). cond k (fin t m e) (ofInt f (below t (m * up e / down e)))) r
     ∙ ap (λ (k : ℕ). cond (eqb (d % w) 0) (fin t m e) (ofInt f (below t k))) q
     ∙ ap (λ (k : Bool). cond (eqb (d % w) 0) (fin t m e) (ofInt f (below k (d / w)))) (v .0)
@@ -126,12 +131,16 @@ part-small f s m (negsuc k) F h =
     wide binary64 m A B h p e = omega arith
 
 module _ (f : Format) (s : Bool) (m : ℕ) (e : ℤ) where
-  -- a whole number is its own floor
-  pub floor-same : m * up e % down e ≡ 0 → eq (fin s m e) (floorS f (fin s m e)) ≡ true
-  floor-same h =
-      ap (eq (fin s m e)) (sym (stays f (fin s m e) s (m * up e) (down e) (down-pos e) (refl, refl) h))
+  -- what is its own floor passes
+  pub floor-own : fin s m e ≡ floorS f (fin s m e) → eq (fin s m e) (floorS f (fin s m e)) ≡ true
+  floor-own h =
+      ap (eq (fin s m e)) (sym h)
       ∙ eq-values (fin s m e) (fin s m e) s (m * up e) (down e) (m * up e) (down e) (down-pos e) (down-pos e) (refl, refl) (refl, refl)
       ∙ eq-eqb (m * up e * down e) (m * up e * down e) refl
+
+  -- as a whole number is
+  pub floor-same : m * up e % down e ≡ 0 → eq (fin s m e) (floorS f (fin s m e)) ≡ true
+  floor-same h = floor-own (stays f (fin s m e) s (m * up e) (down e) (down-pos e) (refl, refl) h)
 
   module _ (F : T (fits f (fin s m e))) where
     -- any other number differs from it
