@@ -19,7 +19,7 @@ pub const BLOCK: u64 = 1 << 23;
 pub fn leaves() -> impl Iterator<Item = &'static Leaf> {
     LEAVES
         .iter()
-        .filter(|l| matches!(l.number, 33..=39 | 41..=43))
+        .filter(|l| matches!(l.number, 33..=39 | 41..=43 | 45))
 }
 
 /// The blocks that agreed, of one build of the program and one of the Rust side: a line of their marks,
@@ -150,6 +150,6 @@ mod tests {
     #[test]
     fn every_pattern_is_in_a_block() {
         assert_eq!(512 * BLOCK, 1 << 32);
-        assert_eq!(leaves().count(), 10);
+        assert_eq!(leaves().count(), 11);
     }
 }

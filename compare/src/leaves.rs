@@ -1,6 +1,6 @@
-//! What the Rust answers to a question to a single leaf: libm's functions, the language's casts, and
-//! Horner's rule written out. A NaN has one pattern, as an argument and as an answer. The distance of two
-//! floats is compare's own, and takes NaNs of every pattern.
+//! What the Rust answers to a question to a single leaf: libm's functions, the language's casts and its
+//! `fract`, and Horner's rule written out. A NaN has one pattern, as an argument and as an answer. The
+//! distance of two floats is compare's own, and takes NaNs of every pattern.
 
 // The constants have the digits of the Rust.
 #![allow(clippy::excessive_precision)]
@@ -74,7 +74,7 @@ const fn leaf(number: u64, name: &'static str, width: Width) -> Leaf {
     }
 }
 
-pub const LEAVES: [Leaf; 49] = [
+pub const LEAVES: [Leaf; 51] = [
     leaf(1, "fabs", Width::Double),
     leaf(2, "floor", Width::Double),
     leaf(3, "whole", Width::Double),
@@ -85,6 +85,7 @@ pub const LEAVES: [Leaf; 49] = [
     leaf(8, "size_word", Width::Double),
     leaf(9, "with_set_high_word", Width::Double),
     leaf(10, "with_set_low_word", Width::Double),
+    leaf(12, "whole, fraction", Width::Double),
     leaf(16, "horner of 0", Width::Double),
     leaf(17, "horner of 1", Width::Double),
     leaf(18, "horner of 2", Width::Double),
@@ -101,6 +102,7 @@ pub const LEAVES: [Leaf; 49] = [
     leaf(41, "erff", Width::Single),
     leaf(42, "erfcf", Width::Single),
     leaf(43, "lgammaf_r", Width::Single),
+    leaf(45, "wholef, fraction", Width::Single),
     leaf(48, "hornerf of 0", Width::Single),
     leaf(49, "hornerf of 1", Width::Single),
     leaf(50, "hornerf of 2", Width::Single),
@@ -236,6 +238,7 @@ fn answer_double(leaf: u64, x: f64, b: u64) -> u64 {
         8 => (bits >> 32) & 0x7fff_ffff,
         9 => bits_of(f64::from_bits(word << 32 | (bits & 0xffff_ffff))),
         10 => bits_of(f64::from_bits((bits >> 32) << 32 | word)),
+        12 => u64::from(x.is_finite() && x.fract() != 0.0),
         16..=20 => bits_of(horner(leaf, x)),
         64 => bits_of(libm::scalbn(x, word as i32)),
         65 => bits_of(libm::exp(x)),
@@ -273,6 +276,7 @@ fn answer_single(leaf: u64, x: f32, b: u64) -> u64 {
             let (value, sign) = libm::lgammaf_r(x);
             return u64::from(sign as u32) << 32 | u64::from(bits_of_f32(value));
         }
+        45 => u32::from(x.is_finite() && x.fract() != 0.0),
         48..=51 => bits_of_f32(hornerf(leaf, x)),
         _ => return UNKNOWN,
     };
@@ -326,7 +330,7 @@ pub fn told_bytes(request: &[u8], port: &[u8], rust: &[u8]) -> String {
 #[cfg(test)]
 mod tests {
     use super::*;
-    use crate::patterns::Patterns;
+    use crate::patterns::{power_of_two, Patterns};
 
     fn double(leaf: u64, x: f64) -> u64 {
         answer(leaf, x.to_bits(), 0)
@@ -340,6 +344,34 @@ mod tests {
         assert_eq!(double(3, 2147483648.0), 0);
         assert_eq!(double(3, f64::NAN), 0);
         assert_eq!(double(3, -0.9), 0);
+    }
+
+    #[test]
+    fn a_fraction_is_seen_at_every_size() {
+        let both = |x: f64| [double(12, x), double(12, -x)];
+        let single = |x: f32| answer(45, u64::from(x.to_bits()), 0);
+        let singles = |x: f32| [single(x), single(-x)];
+        for k in 0..52 {
+            for x in [power_of_two(k), power_of_two(k + 1) - 1.0] {
+                assert_eq!((both(x), both(x + 0.5)), ([0, 0], [1, 1]), "{x}");
+                if k < 23 {
+                    let y = x as f32;
+                    assert_eq!((singles(y), singles(y + 0.5)), ([0, 0], [1, 1]), "{y}");
+                }
+            }
+        }
+        for x in [0.0, power_of_two(52), f64::MAX, f64::INFINITY, f64::NAN] {
+            assert_eq!(both(x), [0, 0], "{x:e}");
+        }
+        for x in [0.0, 8388608.0, f32::MAX, f32::INFINITY, f32::NAN] {
+            assert_eq!(singles(x), [0, 0], "{x:e}");
+        }
+        for n in [1, 0xf_ffff_ffff_ffff, 0x3fef_ffff_ffff_ffff] {
+            assert_eq!(both(f64::from_bits(n)), [1, 1], "{n:#x}");
+        }
+        for n in [1, 0x7f_ffff, 0x3f7f_ffff] {
+            assert_eq!(singles(f32::from_bits(n)), [1, 1], "{n:#x}");
+        }
     }
 
     #[test]

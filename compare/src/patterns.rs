@@ -91,6 +91,14 @@ impl Width {
         self.with_both_signs(specials)
     }
 
+    /// The first and the last whole number of every size that has fractions, and a half behind each.
+    pub fn halves(self) -> Vec<u64> {
+        let sizes = (0..self.mantissa_bits() as i32)
+            .flat_map(|k| [power_of_two(k), power_of_two(k + 1) - 1.0])
+            .flat_map(|x| [self.of(x), self.of(x + 0.5)]);
+        self.with_both_signs(sizes.collect())
+    }
+
     fn with_both_signs(self, sizes: Vec<u64>) -> Vec<u64> {
         sizes
             .iter()

@@ -13,7 +13,8 @@ const RANDOM: usize = 40;
 const PAIRS: usize = 400;
 
 /// Requests to every leaf: the specials and random patterns to each, the neighbours of the cuts to
-/// the leaves that look at them, every pair of the specials to the distances, and numbers that are no leaf's.
+/// the leaves that look at them, halves of every size to the whole parts, every pair of the specials to
+/// the distances, and numbers that are no leaf's.
 pub fn requests(seed: u64) -> Vec<[u8; 24]> {
     let mut list = Vec::new();
     for leaf in &LEAVES {
@@ -24,11 +25,13 @@ pub fn requests(seed: u64) -> Vec<[u8; 24]> {
     for number in [
         0,
         11,
+        13,
         15,
         21,
         31,
         32,
         44,
+        46,
         47,
         52,
         63,
@@ -61,6 +64,9 @@ fn questions(leaf: &Leaf, random: &mut Random) -> Vec<(u64, u64)> {
     if looks_at_cuts(leaf) {
         arguments.extend(leaf.width.around(&leaf.width.cuts()));
     }
+    if [3, 12, 35, 45].contains(&leaf.number) {
+        arguments.extend(leaf.width.halves());
+    }
     arguments.extend((0..RANDOM).map(|_| patterns.random(random)));
     let pair = |a| (a, patterns.second(leaf.second, a, random));
     arguments.into_iter().map(pair).collect()
@@ -70,7 +76,7 @@ fn questions(leaf: &Leaf, random: &mut Random) -> Vec<(u64, u64)> {
 /// are what the functions test; the longest Horner sums are the functions' own.
 fn looks_at_cuts(leaf: &Leaf) -> bool {
     match leaf.width {
-        Width::Double => [2, 3, 4, 8, 65, 66, 80, 81, 82, 83, 84].contains(&leaf.number),
-        Width::Single => [34, 35, 37, 38, 39, 41, 42, 43].contains(&leaf.number),
+        Width::Double => [2, 3, 4, 8, 12, 65, 66, 80, 81, 82, 83, 84].contains(&leaf.number),
+        Width::Single => [34, 35, 37, 38, 39, 41, 42, 43, 45].contains(&leaf.number),
     }
 }

@@ -52,9 +52,9 @@ fn multiple(x: f64, hx: u32, sign: u32) -> i32
 {
     if hx >= 0x3ff0a2b2 {
         if sign == 0 {
-            return whole(INVLN2 * x + 0.5);
+            return whole(INVLN2 * x + 0.5).number;
         }
-        return whole(INVLN2 * x + MINUS_HALF);
+        return whole(INVLN2 * x + MINUS_HALF).number;
     }
     if sign == 0 {
         return 1;

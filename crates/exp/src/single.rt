@@ -39,9 +39,9 @@ fn multiple(x: f32, hx: u32, sign: u32) -> i32
 {
     if hx > 0x3f851592 {
         if sign == 0 {
-            return wholef(INV_LN2 * x + 0.5);
+            return wholef(INV_LN2 * x + 0.5).number;
         }
-        return wholef(INV_LN2 * x + MINUS_HALF);
+        return wholef(INV_LN2 * x + MINUS_HALF).number;
     }
     if sign == 0 {
         return 1;

@@ -1,15 +1,15 @@
 // Answers questions to single leaves, for the comparison with the Rust. A request is three u64, the lowest byte first: the leaf's number,
 // and its arguments' bits a and b. Its answer is one u64. A number that is not listed is answered by all ones.
 //
-//  1 fabs           5 get_high_word    9 with_set_high_word(a, b)
-//  2 floor          6 get_low_word    10 with_set_low_word(a, b)
-//  3 whole          7 sign
-//  4 narrow         8 size_word
+//  1 fabs             5 get_high_word    9 with_set_high_word(a, b)
+//  2 floor            6 get_low_word    10 with_set_low_word(a, b)
+//  3 whole's number   7 sign            12 whole's fraction, 1 or 0
+//  4 narrow           8 size_word
 // 16 to 20 horner at a, over no coefficient, the first, the first two and all of erf's PP, and over erf's SA
-// 33 fabsf         36 sign_f32       39 logf
-// 34 floorf        37 size_bits      40 scalbnf(a, b), b an i32
-// 35 wholef        38 expf
-// 41 erff          43 lgammaf_r: its sign above its value
+// 33 fabsf           36 sign_f32        39 logf
+// 34 floorf          37 size_bits       40 scalbnf(a, b), b an i32
+// 35 wholef's number 38 expf            45 wholef's fraction, 1 or 0
+// 41 erff            43 lgammaf_r: its sign above its value
 // 42 erfcf
 // 48 to 51 hornerf at a, over no coefficient, the first, the first two and all of erff's PP
 // 64 scalbn(a, b), b an i32
@@ -135,7 +135,7 @@ fn number_leaf(leaf: u64, x: f64) -> u64 {
     match leaf {
         1 => bits_of(fabs(x)),
         2 => bits_of(floor(x)),
-        3 => pattern(whole(x)),
+        3 => pattern(whole(x).number),
         4 => bits_of_f32(narrow(x)) as u64,
         _ => UNKNOWN,
     }
@@ -149,6 +149,13 @@ fn word_leaf(leaf: u64, x: f64, w: u32) -> u64 {
         8 => size_word(x) as u64,
         9 => bits_of(with_set_high_word(x, w)),
         10 => bits_of(with_set_low_word(x, w)),
+        _ => UNKNOWN,
+    }
+}
+
+fn fraction_leaf(leaf: u64, x: f64) -> u64 {
+    match leaf {
+        12 => whole(x).fraction as u64,
         _ => UNKNOWN,
     }
 }
@@ -168,7 +175,7 @@ fn number_leaf_f32(leaf: u64, x: f32) -> u64 {
     match leaf {
         33 => bits_of_f32(fabsf(x)) as u64,
         34 => bits_of_f32(floorf(x)) as u64,
-        35 => pattern(wholef(x)),
+        35 => pattern(wholef(x).number),
         36 => sign_f32(x) as u64,
         37 => size_bits(x) as u64,
         _ => UNKNOWN,
@@ -195,6 +202,13 @@ fn function_leaf_f32(leaf: u64, x: f32) -> u64 {
         41 => bits_of_f32(erff(x)) as u64,
         42 => bits_of_f32(erfcf(x)) as u64,
         43 => sign_and_value(x),
+        _ => UNKNOWN,
+    }
+}
+
+fn fraction_leaf_f32(leaf: u64, x: f32) -> u64 {
+    match leaf {
+        45 => wholef(x).fraction as u64,
         _ => UNKNOWN,
     }
 }
@@ -270,8 +284,11 @@ fn answer_f32(leaf: u64, x: f32, n: i32) -> u64 {
     if leaf < 41 {
         return power_leaf_f32(leaf, x, n);
     }
-    if leaf < 48 {
+    if leaf < 44 {
         return function_leaf_f32(leaf, x);
+    }
+    if leaf < 48 {
+        return fraction_leaf_f32(leaf, x);
     }
     horner_leaf_f32(leaf, x)
 }
@@ -281,8 +298,11 @@ fn answer(leaf: u64, a: u64, b: u64) -> u64 {
     if leaf < 5 {
         return number_leaf(leaf, of_bits(a));
     }
-    if leaf < 16 {
+    if leaf < 12 {
         return word_leaf(leaf, of_bits(a), low_half(b));
+    }
+    if leaf < 16 {
+        return fraction_leaf(leaf, of_bits(a));
     }
     if leaf < 32 {
         return horner_leaf(leaf, of_bits(a));

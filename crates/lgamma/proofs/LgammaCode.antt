@@ -8,13 +8,13 @@ use lib.Dec.{leb}
 use lib.Ieee as Ieee
 use lib.Ieee.{Float, nan, neg, ofInt}
 use mir.Syntax.{w32}
-use mir.Val.{SFits, toZ, ofZ}
-use mir.ValLaws.{toZ-ofZ}
+use mir.Val.{toZ, ofZ}
 use borrow.Author.Tests.{le-leb, lt-leb, lt-ltb, le-ltb, eq-eqb, ne-eqb}
 use Rattle.words.specs.Pick.{pick}
 use Rattle.words.specs.Operators.{Operators, operators}
 use Rattle.words.specs.Bits.{signS}
 use Rattle.whole.specs.Whole.{wholeS}
+use Rattle.whole.proofs.WholeLaws.{whole-held}
 use Rattle.words.proofs.PatternLaws.{is-nan}
 use Rattle.poly.specs.Horner.{hornerS}
 use Rattle.lgamma.specs.Plan.{Plan, Answer, Segment}
@@ -58,11 +58,11 @@ module _ (p : Plan) where
     below2-by el = rw (el, ea, es)
 
   -- ---- below8, where whole gives i, and n is i as a float. P and Q are the values of the polynomials S and R
-  module _ (x : Float) {n P Q : Float} {i : ℤ} (F : SFits w32 i) (ei : i ≡ wholeS x) (en : n ≡ ofInt (p .format) (toZ w32 (ofZ w32 i)))
+  module _ (x : Float) {n P Q : Float} {i : ℤ} (ei : i ≡ wholeS x) (en : n ≡ ofInt (p .format) (toZ w32 (ofZ w32 i)))
       (eP : P ≡ hornerS (p .format) (p .S) (x ⊖ n)) (eQ : Q ≡ hornerS (p .format) (p .R) (x ⊖ n)) where
     -- i as a local holds it
     held : toZ w32 (ofZ w32 i) ≡ wholeS x
-    held = toZ-ofZ w32 i F ∙ ei
+    held = whole-held x ei
 
     pub by-product : {z l : Float} → z ≡ productS p (x ⊖ n) (toZ w32 (ofZ w32 i)) → l ≡ p .log z → leZ (pos 3) (toZ w32 (ofZ w32 i)) ≡ true
         → p .0·5 ⊗ (x ⊖ n) ⊕ (x ⊖ n) ⊗ P ⊘ Q ⊕ l ≡ below8S p x

@@ -67,7 +67,7 @@ fn product(y: f64, i: i32) -> f64
 pub(crate) fn below8(x: f64) -> f64
     ensures { λ r. ⌜ r ≡ below8S lgamma64 x ⌝ }
 {
-    let i = whole(x);
+    let i = whole(x).number;
     let y = x - i as f64;
     let p = y * horner(&S, y);
     let q = horner(&R, y);

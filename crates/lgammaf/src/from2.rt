@@ -65,7 +65,7 @@ fn product(y: f32, i: i32) -> f32
 pub(crate) fn below8(x: f32) -> f32
     ensures { λ r. ⌜ r ≡ below8S lgamma32 x ⌝ }
 {
-    let i = wholef(x);
+    let i = wholef(x).number;
     let y = x - std::num::nearest_i32_to_f32(i);
     let p = y * hornerf(&S, y);
     let q = hornerf(&R, y);

@@ -9,14 +9,13 @@ pub mod lanczos;
 ghost use mathlib.Core.Path.{_≡_};
 ghost use mathlib.Core.Bool.{true};
 ghost use Prim.Native.Nat.{_≤_};
-ghost use lib.IntN.{natAbs};
 ghost use lib.Ieee as Ieee;
 ghost use lib.Ieee.{nan, binary64, neg};
 ghost use lib.ListN.{getD};
 ghost use Rattle.words.specs.Pick.{if_then_else_};
 ghost use Rattle.words.specs.Tests.{_=?_, _<·_};
 ghost use Rattle.words.specs.Bits.{sizeWordS, signS};
-ghost use Rattle.words.specs.F64.{_⊗_, _⊘_, bits, 0·0};
+ghost use Rattle.words.specs.F64.{_⊗_, _⊘_, 0·0};
 ghost use Rattle.floor.specs.Floor.{floorS};
 ghost use Rattle.whole.specs.Whole.{wholeS};
 ghost use Rattle.sinpi.specs.Sinpi.{sinpiS};
@@ -148,24 +147,17 @@ fn general(x: f64, ix: u32, sign: u32) -> f64
     by_lanczos(x, sign)
 }
 
-// x as usize, of a whole number from 1 to 23.
-fn number(x: f64) -> usize
-    requires { ⌜ (Ieee.eq x (floorS binary64 x) ≡ true) × (0x3C900000 ≤ sizeWordS x) × (signS binary64 x ≡ 1 → ⊥) × (Ieee.le x (bits 0x4037000000000000) ≡ true) ⌝ }
-    ensures { λ r. ⌜ (r ≡ natAbs (wholeS x)) × (1 ≤ r) × (r ≤ 23) ⌝ }
-{
-    whole(x) as usize
-}
-
 /* integer arguments */
-fn integer(x: f64, ix: u32, sign: u32) -> f64
-    requires { ⌜ (Ieee.eq x (floorS binary64 x) ≡ true) × (0x3C900000 ≤ ix) × (ix ≡ sizeWordS x) × (sign ≡ signS binary64 x) ⌝ }
+// n is the whole part of x.
+fn integer(x: f64, n: i32, ix: u32, sign: u32) -> f64
+    requires { ⌜ (Ieee.eq x (floorS binary64 x) ≡ true) × (n ≡ wholeS x) × (0x3C900000 ≤ ix) × (ix ≡ sizeWordS x) × (sign ≡ signS binary64 x) ⌝ }
     ensures { λ r. ⌜ r ≡ integerS x ix sign ⌝ }
 {
     if sign == 1 {
         return 0.0 / 0.0;
     }
     if x <= 23.0 {
-        return fact(number(x) - 1);
+        return fact(n as usize - 1);
     }
     general(x, ix, sign)
 }
@@ -182,8 +174,10 @@ pub fn tgamma(x: f64) -> f64
         /* |x| < 2^-54: tgamma(x) ~ 1/x */
         return 1.0 / x;
     }
-    if x == floor(x) {
-        return integer(x, ix, sign(x));
+    let w = whole(x);
+    if w.fraction {
+        // x != floor(x)
+        return general(x, ix, sign(x));
     }
-    general(x, ix, sign(x))
+    integer(x, w.number, ix, sign(x))
 }

@@ -1,23 +1,24 @@
 -- The whole part by the value of x:
 --   `whole-at`, `whole-value`: of ±d / w it is ±(d / w), where that is below 2 ^ 31, and else 0;
 --   `whole-nan`: of a NaN it is 0;
---   `whole-neg`: of -x it is that of x, negated.
+--   `whole-neg`: of -x it is that of x, negated;
+--   `signed-fits`, `whole-fits`, `whole-held`: an i32 holds it.
 -- Assumes nothing.
-use mathlib.Core.Path.{_≡_, refl, ap, _∙_}
+use mathlib.Core.Path.{_≡_, refl, sym, ap, _∙_, subst}
 use mathlib.Core.Bool.{Bool, true, false, not, cond}
-use Prim.Native.Nat.{ℕ, zero, suc, _+_, _*_, _/_, _^_, _<_}
+use Prim.Native.Nat.{ℕ, zero, suc, _*_, _/_, _^_, _<_}
 use lib.IntN.{ℤ, pos, negℤ}
-use lib.Dec.{ltb}
+use native.Mathlib.Omega.{arith}
+use lib.Dec.{ltb, lit<}
 use lib.Ieee.{Float, nan, inf, fin, up, down, neg}
 use lib.Ieee.Exact.{HasValue}
 use lib.Ieee.Fits.{down-pos}
 use lib.Ieee.Nearest.{div-same}
-use borrow.Author.Tests.{lt-ltb}
-use Rattle.whole.specs.Whole.{wholeS, signed}
-
--- ±q where q is below 2 ^ 31, else 0
-abbrev pub small : Bool → ℕ → ℤ
-small s q = cond (ltb q (2 ^ 31)) (signed s q) (pos 0)
+use mir.Syntax.{w32}
+use mir.Val.{SFits, toZ, ofZ}
+use mir.ValLaws.{toZ-ofZ}
+use borrow.Author.Tests.{lt-ltb, ltb-true}
+use Rattle.whole.specs.Whole.{signed, small, wholeS}
 
 pub whole-at : (x : Float) (s : Bool) (d w : ℕ) → 0 < w → HasValue x s d w → wholeS x ≡ small s (d / w)
 unfolding wholeS
@@ -42,3 +43,23 @@ whole-neg (fin s m e) = go s (m * up e / down e) (ltb (m * up e / down e) (2 ^ 3
     go true (suc q) true = refl
     go false q true = refl
     go s q false = refl
+
+-- an i32 holds ±q
+pub signed-fits : (s : Bool) (q : ℕ) → q < 2 ^ 31 → SFits w32 (signed s q)
+signed-fits false q h = record { sfits = h }
+signed-fits true zero h = record { sfits = omega arith }
+signed-fits true (suc q) h = record { sfits = omega (arith, h) }
+
+pub whole-fits : (x : Float) → SFits w32 (wholeS x)
+unfolding wholeS
+whole-fits nan = signed-fits false 0 (lit< tt)
+whole-fits (inf s) = signed-fits false 0 (lit< tt)
+whole-fits (fin s m e) = go (m * up e / down e) _ refl
+  where
+    go : (q : ℕ) (t : Bool) → ltb q (2 ^ 31) ≡ t → SFits w32 (small s q)
+    go q true h = rw h (signed-fits s q (ltb-true q (2 ^ 31) h))
+    go q false h = rw h (signed-fits false 0 (lit< tt))
+
+-- so the number n, as a local of 32 bits holds it, is the whole part
+pub whole-held : {n : ℤ} (x : Float) → n ≡ wholeS x → toZ w32 (ofZ w32 n) ≡ wholeS x
+whole-held x e = toZ-ofZ w32 _ (subst (SFits w32) (sym e) (whole-fits x)) ∙ e

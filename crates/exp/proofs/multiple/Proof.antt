@@ -1,9 +1,8 @@
 -- `exp::multiple` meets its contract. Assumes nothing.
 use mathlib.Core.Path.{_∙_}
 use native.Mathlib.Omega.{arith}
-use mir.Syntax.{w32}
-use mir.ValLaws.{toZ-ofZ}
-use borrow.Author.Needs.{needs, sfits-of}
+use borrow.Author.Needs.{needs}
+use Rattle.whole.proofs.WholeLaws.{whole-held}
 use Rattle.exp.specs.Exp.{exp64}
 use Rattle.exp.proofs.ExpCode as code
 use Rattle.exp.proofs.multiple.Statement.{statement}
@@ -14,20 +13,20 @@ whole-requires c κs = search needs
 
 returns : tie.Need-returns
 returns c =
-    let a = c .before .before .before .args in
-    toZ-ofZ w32 (c .whole .result) (sfits-of (c .whole .ok))
-    ∙ c .whole .ensures
-    ∙ code.nearest-plus exp64 (a .x) (a .hx) (a .sign) (omega (arith, c .before .before .if1 .taken)) (c .before .if2 .taken)
+    let w = c .before in
+    let a = w .before .before .before .args in
+    whole-held _ (w .whole .ensures .0)
+    ∙ code.nearest-plus exp64 (a .x) (a .hx) (a .sign) (omega (arith, w .before .before .if1 .taken)) (w .before .if2 .taken)
 
 whole-requires-2 : tie.Need-whole-requires-2
 whole-requires-2 c κs = search needs
 
 returns-2 : tie.Need-returns-2
 returns-2 c =
-    let a = c .before .before .before .args in
-    toZ-ofZ w32 (c .whole2 .result) (sfits-of (c .whole2 .ok))
-    ∙ c .whole2 .ensures
-    ∙ code.nearest-minus exp64 (a .x) (a .hx) (a .sign) (omega (arith, c .before .before .if1 .taken)) (c .before .if2 .left)
+    let w = c .before in
+    let a = w .before .before .before .args in
+    whole-held _ (w .whole2 .ensures .0)
+    ∙ code.nearest-minus exp64 (a .x) (a .hx) (a .sign) (omega (arith, w .before .before .if1 .taken)) (w .before .if2 .left)
 
 returns-3 : tie.Need-returns-3
 returns-3 c =

@@ -1,13 +1,9 @@
--- `whole::wholef` meets its contract: 0 below 1 and from 2 ^ 31 on, else the digits before the point. Assumes nothing.
-use mathlib.Core.Path.{_≡_, sym, ap, _∙_}
-use Prim.Native.Nat.{_^_, _<_}
-use native.Mathlib.Nat.{lt-trans}
-use lib.Dec.{lit≤, lit<}
+-- `whole::wholef` meets its contract: below 1, from 2 ^ 31 on, and between as a quotient and its remainder. Assumes nothing.
+use mathlib.Core.Path.{_≡_, ap, _∙_}
+use native.Mathlib.Omega.{arith}
 use lib.Ieee.{binary32, ofBits}
-use borrow.Author.Needs.{needs, sfits-of}
-use mir.Syntax.{w32}
-use mir.ValLaws.{toZ-ofZ}
-use Rattle.whole.specs.Whole.{wholeS}
+use borrow.Author.Needs.{needs}
+use Rattle.whole.specs.Whole.{wholeS, hasFractionS}
 use Rattle.words.proofs.PatternLaws.{of-pattern}
 use Rattle.whole.proofs.WholeBits as laws
 use Rattle.whole.proofs.wholef.Statement.{statement}
@@ -23,35 +19,38 @@ held c =
     of-pattern binary32 (a .args .x) (c .bits-of-f32 .result) (a .good .0 .1) (c .bits-of-f32 .ensures)
 
 returns : tie.Need-returns
-returns c = laws.below-one binary32 (c .before .bits-of-f32 .result) (c .if1 .taken) ∙ ap wholeS (held (c .before))
+returns c =
+    let p = laws.below-one binary32 (c .before .bits-of-f32 .result) (c .if1 .taken) in
+    (p .0 ∙ ap wholeS (held (c .before)), p .1 ∙ ap hasFractionS (held (c .before)))
 
 returns-2 : tie.Need-returns-2
-returns-2 c = laws.large binary32 (c .before .before .bits-of-f32 .result) (c .if2 .taken) ∙ ap wholeS (held (c .before .before))
+returns-2 c =
+    let b = c .before .before in (
+      laws.large binary32 (b .bits-of-f32 .result) (omega (arith, c .if2 .taken)) ∙ ap wholeS (held b),
+      laws.no-fraction binary32 (b .bits-of-f32 .result) (omega (arith, c .if2 .taken)) ∙ ap hasFractionS (held b),
+    )
 
-add-q : tie.Need-add-q
-add-q c = search needs
+add-m : tie.Need-add-m
+add-m c = search needs
 
-mul-q : tie.Need-mul-q
-mul-q c = search needs
+mul-m : tie.Need-mul-m
+mul-m c = search needs
 
-shr-q : tie.Need-shr-q
-shr-q c = search needs
+cast-divided : tie.Need-cast-divided
+cast-divided c = search needs
 
-few : (c : tie.Else2) → laws.digits binary32 7 (c .before .before .bits-of-f32 .result) < 2 ^ 31
-few c = laws.few binary32 (c .before .before .bits-of-f32 .result) 7 (lit≤ tt) (c .before .if1 .left) (c .if2 .left)
+cast-divided-2 : tie.Need-cast-divided-2
+cast-divided-2 c = search needs
 
-cast-turned : tie.Need-cast-turned
-cast-turned c = record { fits = lt-trans (few c) (lit< tt) }
-
-turned-requires : tie.Need-turned-requires
-turned-requires c κs = few c
+divided-requires : tie.Need-divided-requires
+divided-requires c κs = search needs
 
 returns-3 : tie.Need-returns-3
 returns-3 c =
-    let b = c .before .before .before .bits-of-f32 .result in
-    toZ-ofZ w32 _ (sfits-of (c .turned .ok)) ∙ c .turned .ensures
-    ∙ sym (laws.inside binary32 b 7 (lit≤ tt) (c .before .before .if1 .left) (c .before .if2 .left))
-    ∙ ap wholeS (held (c .before .before .before))
+    let v = c .before .before .before in
+    let upto = c .before .if2 .left in
+    let p = laws.inside binary32 (v .bits-of-f32 .result) 7 (c .before .before .if1 .left) (omega (arith, upto)) (omega (arith, upto)) in
+    (c .divided .ensures .0 ∙ p .0 ∙ ap wholeS (held v), c .divided .ensures .1 ∙ p .1 ∙ ap hasFractionS (held v))
 
 pub wholef-spec : {M : Type 1} → statement M
-wholef-spec = tie.close (tie.spec bits-of-f32-requires returns returns-2 add-q mul-q shr-q cast-turned turned-requires returns-3)
+wholef-spec = tie.close (tie.spec bits-of-f32-requires returns returns-2 add-m mul-m cast-divided cast-divided-2 divided-requires returns-3)

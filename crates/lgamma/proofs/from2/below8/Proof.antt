@@ -1,6 +1,6 @@
 -- `lgamma::from2::below8` meets its contract. Assumes nothing.
 use mathlib.Core.Path.{refl}
-use borrow.Author.Needs.{needs, sfits-of}
+use borrow.Author.Needs.{needs}
 use Rattle.lgamma.specs.Lgamma64.{lgamma64}
 use Rattle.lgamma.proofs.LgammaCode as code
 use Rattle.lgamma.proofs.from2.below8.Statement.{statement}
@@ -33,15 +33,15 @@ log-requires c κs = search needs
 returns : tie.Need-returns
 returns c =
     let h = c .before .before .before in
-    let w = h .before .before .before .before .before .whole in
-    code.by-product lgamma64 _ (sfits-of (w .ok)) (w .ensures) refl (h .before .before .horner .ensures) (h .horner2 .ensures)
+    let e = h .before .before .before .before .before .before .whole .ensures .0 in
+    code.by-product lgamma64 _ e refl (h .before .before .horner .ensures) (h .horner2 .ensures)
     (c .before .product .ensures) (c .log .ensures) (c .before .before .if1 .taken)
 
 returns-2 : tie.Need-returns-2
 returns-2 c =
     let h = c .before in
-    let w = h .before .before .before .before .before .whole in
-    code.by-itself lgamma64 _ (sfits-of (w .ok)) (w .ensures) refl (h .before .before .horner .ensures) (h .horner2 .ensures) (c .if1 .left)
+    let e = h .before .before .before .before .before .before .whole .ensures .0 in
+    code.by-itself lgamma64 _ e refl (h .before .before .horner .ensures) (h .horner2 .ensures) (c .if1 .left)
 
 pub below8-spec : {M : Type 1} → statement M
 below8-spec =

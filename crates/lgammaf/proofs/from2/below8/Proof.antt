@@ -1,5 +1,5 @@
 -- `lgammaf::from2::below8` meets its contract. Assumes nothing.
-use borrow.Author.Needs.{needs, sfits-of}
+use borrow.Author.Needs.{needs}
 use Rattle.lgamma.proofs.LgammaCode as code
 use Rattle.lgammaf.specs.Lgammaf.{lgamma32}
 use Rattle.lgammaf.proofs.from2.below8.Statement.{statement}
@@ -33,14 +33,16 @@ returns : tie.Need-returns
 returns c =
     let h = c .before .before .before in
     let n = h .before .before .before .before in
-    code.by-product lgamma32 _ (sfits-of (n .before .wholef .ok)) (n .before .wholef .ensures) (n .nearest-i32-to-f32 .ensures)
+    let e = n .before .before .wholef .ensures .0 in
+    code.by-product lgamma32 _ e (n .nearest-i32-to-f32 .ensures)
     (h .before .before .hornerf .ensures) (h .hornerf2 .ensures) (c .before .product .ensures) (c .logf .ensures) (c .before .before .if1 .taken)
 
 returns-2 : tie.Need-returns-2
 returns-2 c =
     let h = c .before in
     let n = h .before .before .before .before in
-    code.by-itself lgamma32 _ (sfits-of (n .before .wholef .ok)) (n .before .wholef .ensures) (n .nearest-i32-to-f32 .ensures)
+    let e = n .before .before .wholef .ensures .0 in
+    code.by-itself lgamma32 _ e (n .nearest-i32-to-f32 .ensures)
     (h .before .before .hornerf .ensures) (h .hornerf2 .ensures) (c .if1 .left)
 
 pub below8-spec : {M : Type 1} → statement M
