@@ -91,7 +91,8 @@ impl Width {
         self.with_both_signs(specials)
     }
 
-    /// The first and the last whole number of every size that has fractions, and a half behind each.
+    /// The first and the last whole number of every size from 1 on that has fractions, and a half behind
+    /// each.
     pub fn halves(self) -> Vec<u64> {
         let sizes = (0..self.mantissa_bits() as i32)
             .flat_map(|k| [power_of_two(k), power_of_two(k + 1) - 1.0])

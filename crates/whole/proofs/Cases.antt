@@ -44,6 +44,7 @@ at-edges = refl
 
 abbrev edges32 : List Edge
 edges32 =
+    (0x00000000, pos 0, false) ∷  -- +0
     (0x80000000, pos 0, false) ∷  -- -0
     (0x80000001, pos 0, true) ∷  -- the smallest, negative
     (0x3F7FFFFF, pos 0, true) ∷  -- the last below 1
@@ -53,6 +54,7 @@ edges32 =
     (0x4EFFFFFF, pos 2147483520, false) ∷  -- the last below 2^31
     (0xCF000000, pos 0, false) ∷  -- -2^31
     (0x7F800000, pos 0, false) ∷  -- +inf
+    (0xFF800000, pos 0, false) ∷  -- -inf
     (0x7FC00000, pos 0, false) ∷ []  -- NaN
 
 pub at-edges-f32 : said binary32 edges32 ≡ edges32

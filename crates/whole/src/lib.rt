@@ -27,7 +27,7 @@ fn turned(q: u64, minus: bool) -> i32
     if minus { 0 - q as i32 } else { q as i32 }
 }
 
-// ±m / 2^k: the quotient is the whole part, and there is a fraction where something is left over.
+// ±m / 2^k: the quotient, where it is below 2^31, is the whole part, and there is a fraction where something is left over.
 fn divided(m: u64, k: u64, minus: bool) -> WholePart
     requires { ⌜ k < 64 ⌝ }
     ensures { λ r. ⌜ (r .number ≡ small minus (m / 2 ^ k)) × (r .fraction ≡ not (eqb (m % 2 ^ k) 0)) ⌝ }
