@@ -4,18 +4,19 @@
 --   `bits-from`, `bits-upto`: a size from the cut on, or up to it, has b from c on, or up to c;
 --   `from-bits`, `upto-bits`: and back; these five in either format;
 --   `word-under`, `word-from`, `word-upto`, `from-word`, `upto-word`: the same five for the size word of an f64, which is b's upper half;
---   `sign-of`: the sign bit.
+--   `sign-of`: the sign bit; `signed-bit`: the same of all that has a sign, the infinities too.
 -- Assumes nothing.
-use mathlib.Core.Path.{_≡_, _∙_}
+use mathlib.Core.Path.{_≡_, refl, _∙_, subst}
 use Prim.Native.Nat.{ℕ, _*_, _/_, _%_, _^_, _<_, _≤_}
 use native.Mathlib.Nat.{div-eq-of-lt}
 use native.Mathlib.Omega.{arith}
 use mathlib.Core.Bool.{Bool, true, false, cond}
 use lib.IntN.{ℤ}
 use lib.Dec.{T}
-use lib.Ieee.{fin, Format, binary32, binary64, top, toBits, ofBits, le, fits}
+use lib.Ieee.{Float, nan, inf, fin, Format, binary32, binary64, top, toBits, ofBits, le, fits}
 use lib.Ieee.Bits.{is-true}
 use Rattle.rounding.proofs.BitOrder.{endless, under-top, bits-le, le-bits, toBits-under, toBits-neg}
+use Rattle.rounding.proofs.Signed.{Signed}
 use Rattle.words.specs.Bits.{signS, sizeWordS}
 use Rattle.words.proofs.PatternLaws.{fits-any-sign, unsigned-rest, size-pattern, fabs-fin}
 
@@ -72,3 +73,16 @@ sign-of f s m e F = go f s (under-top f (toBits f (fin false m e)) (toBits-under
     go binary32 true h = omega (arith, toBits-neg binary32 m e)
     go binary64 true h = omega (arith, toBits-neg binary64 m e)
     go f false h = div-eq-of-lt h
+
+infinity-bit : (f : Format) (s : Bool) → signS f (inf s) ≡ cond s 1 0
+unfolding toBits
+infinity-bit binary32 true = refl
+infinity-bit binary32 false = refl
+infinity-bit binary64 true = refl
+infinity-bit binary64 false = refl
+
+-- of all that has the sign s, which a NaN has not
+pub signed-bit : (f : Format) (s : Bool) (x : Float) → T (fits f x) → Signed s x → signS f x ≡ cond s 1 0
+signed-bit f s nan F h = absurd h
+signed-bit f s (inf t) F h = subst (λ (b : Bool). signS f (inf t) ≡ cond b 1 0) h (infinity-bit f t)
+signed-bit f s (fin t m e) F h = subst (λ (b : Bool). signS f (fin t m e) ≡ cond b 1 0) h (sign-of f t m e F)
