@@ -1,5 +1,5 @@
--- tgamma at the values that ISO C's Annex F names: ±inf at ±0, NaN at every negative whole number and at -inf, +inf at +inf, NaN at a NaN.
--- Assumes nothing.
+-- The gamma function at the values that ISO C's Annex F names: ±inf at ±0, NaN at every negative whole number and at -inf, +inf at +inf, NaN at a NaN.
+-- `AnnexF` states them, of a function of either format; `tgamma-special`: tgamma has them. Assumes nothing.
 use mathlib.Core.Path.{_≡_, refl}
 use Prim.Native.Nat.{ℕ, _*_, _%_, _<_, _≤_}
 use native.Mathlib.Nat.{mul-pos}
@@ -7,7 +7,7 @@ use native.Mathlib.Omega.{arith}
 use mathlib.Core.Bool.{Bool, true, false}
 use lib.IntN.{ℤ, pos}
 use lib.Dec.{T}
-use lib.Ieee.{nan, inf, fin, binary64, fits, up, down, add, div, toBits, ofBits}
+use lib.Ieee.{Float, Format, nan, inf, fin, binary64, fits, up, down, add, div, toBits, ofBits}
 use lib.Ieee.Fits.{up-pos}
 use borrow.Author.Tests.{lt-leb, le-ltb}
 use Rattle.rounding.proofs.Signed.{Le→le}
@@ -16,6 +16,13 @@ use Rattle.words.proofs.CutLaws.{word-under, word-from, sign-of}
 use Rattle.floor.proofs.FloorValues.{floor-same}
 use Rattle.tgamma.proofs.FactIndex.{one-le}
 use Rattle.tgamma.specs.Tgamma.{tgammaS, integerS}
+
+pub record AnnexF (f : Format) (g : Float → Float) : Type 0 where
+  pub at-zero : (s : Bool) → g (fin s 0 (pos 0)) ≡ inf s
+  pub at-infinity : g (inf false) ≡ inf false
+  pub at-minus-infinity : g (inf true) ≡ nan
+  pub at-nan : g nan ≡ nan
+  pub at-negative-whole : (m : ℕ) (e : ℤ) → T (fits f (fin true m e)) → 0 < m → m * up e % down e ≡ 0 → g (fin true m e) ≡ nan
 
 pub tgamma-zero : (s : Bool) → tgammaS (fin s 0 (pos 0)) ≡ inf s
 unfolding tgammaS ofBits toBits div
@@ -49,3 +56,13 @@ tgamma-negative-whole m e F p h =
           word-from true m e F 0x3FF0000000000000 (omega arith)
               (Le→le false 1 (pos 0) false m e (omega (arith, one-le (m * up e) (down e) (mul-pos p (up-pos e)) h))),
         )
+
+-- ---- all of them
+pub tgamma-special : AnnexF binary64 tgammaS
+tgamma-special = record {
+  at-zero = tgamma-zero;
+  at-infinity = tgamma-infinity;
+  at-minus-infinity = tgamma-minus-infinity;
+  at-nan = tgamma-nan;
+  at-negative-whole = tgamma-negative-whole;
+}
