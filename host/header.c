@@ -45,6 +45,11 @@ static void doubles(void) {
 
 static void floats(void) {
     int sign = 0;
+    check(same_f32(rvt_tgammaf_f32(5.0f), 0x41C00000), "tgammaf of 5 is 24");
+    check(same_f32(rvt_tgammaf_f32(-1.0f), 0x7FC00000), "tgammaf of -1 is the NaN");
+    check(same_f32(rvt_tgammaf_f32(36.0f), 0x7F800000), "tgammaf of 36 overflows");
+    check(same_f32(rvt_tgammaf_f32(-42.5f), 0x80000000), "tgammaf of -42.5 vanishes, its sign minus");
+    check(same_f32(rvt_tgammaf_f32(-43.5f), 0), "tgammaf of -43.5 vanishes, its sign plus");
     check(same_f32(rvt_erff_f32(-0.0f), 0x80000000), "erff of -0 is -0");
     check(same_f32(rvt_erff_f32(6.0f), 0x3F800000), "erff of 6 is 1");
     check(same_f32(rvt_erfcf_f32(-6.0f), 0x40000000), "erfcf of -6 is 2");

@@ -26,7 +26,7 @@
 /* The version of this interface. What is added raises the second number, what changes or goes the
  * first. */
 #define RVT_VERSION_MAJOR 1
-#define RVT_VERSION_MINOR 2
+#define RVT_VERSION_MINOR 3
 #define RVT_VERSION_PATCH 0
 #define RVT_VERSION (RVT_VERSION_MAJOR * 10000 + RVT_VERSION_MINOR * 100 + RVT_VERSION_PATCH)
 
@@ -51,9 +51,12 @@ uint64_t rvt_erf(uint64_t x);
 uint64_t rvt_erfc(uint64_t x);
 
 /* The same from the bits of an f32 to the bits of an f32. A NaN's answer is 0x7FC00000. The sign that
- * rvt_lgammaf_r_sign reports is the one that rvt_lgamma_r_sign reports of the same number. */
+ * rvt_lgammaf_r_sign reports is the one that rvt_lgamma_r_sign reports of the same number. rvt_tgammaf, from
+ * version 1.3 on, is rvt_tgamma of the same number, rounded once to f32; where that overflows or vanishes
+ * the answer is the infinity or the zero of its sign. */
 uint32_t rvt_lgammaf_r_value(uint32_t x);
 int32_t rvt_lgammaf_r_sign(uint32_t x);
+uint32_t rvt_tgammaf(uint32_t x);
 uint32_t rvt_erff(uint32_t x);
 uint32_t rvt_erfcf(uint32_t x);
 
@@ -71,6 +74,7 @@ uint32_t rvt_erfcf(uint32_t x);
  *     3     erf        9              9
  *     4     erfc       9              9
  *     17    lgammaf_r  5              6
+ *     18    tgammaf    5              5
  *     19    erff       5              5
  *     20    erfcf      5              5
  */
@@ -80,6 +84,7 @@ enum rvt_kind {
     RVT_ERF = 3,
     RVT_ERFC = 4,
     RVT_LGAMMAF_R = 17,
+    RVT_TGAMMAF = 18,
     RVT_ERFF = 19,
     RVT_ERFCF = 20
 };
@@ -258,6 +263,7 @@ static inline float rvt_of_bits_f32(uint32_t bits) {
 static inline double rvt_tgamma_f64(double x) { return rvt_of_bits_f64(rvt_tgamma(rvt_bits_f64(x))); }
 static inline double rvt_erf_f64(double x) { return rvt_of_bits_f64(rvt_erf(rvt_bits_f64(x))); }
 static inline double rvt_erfc_f64(double x) { return rvt_of_bits_f64(rvt_erfc(rvt_bits_f64(x))); }
+static inline float rvt_tgammaf_f32(float x) { return rvt_of_bits_f32(rvt_tgammaf(rvt_bits_f32(x))); }
 static inline float rvt_erff_f32(float x) { return rvt_of_bits_f32(rvt_erff(rvt_bits_f32(x))); }
 static inline float rvt_erfcf_f32(float x) { return rvt_of_bits_f32(rvt_erfcf(rvt_bits_f32(x))); }
 

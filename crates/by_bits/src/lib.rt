@@ -13,6 +13,7 @@ ghost use Rattle.tgamma.specs.Tgamma.{tgammaS};
 ghost use Rattle.erf.specs.Erf64.{erfS, erfcS};
 ghost use Rattle.lgamma.specs.Lgamma64.{lgammaS};
 ghost use Rattle.lgammaf.specs.Lgammaf.{lgammafS};
+ghost use Rattle.tgammaf.specs.Tgammaf.{tgammafS};
 ghost use Rattle.erff.specs.Erff.{erffS, erfcfS};
 ghost use Rattle.by_bits.specs.ByBits.{onBits, valueOnBits, signOnBits};
 
@@ -104,6 +105,15 @@ pub fn lgammaf_r_bits(x: u32) -> SignedBitsF32
         value: bits_of_f32(t.value),
         sign: t.sign,
     }
+}
+
+pub fn tgammaf_bits(x: u32) -> u32
+    ensures { λ r. ⌜ r ≡ onBits binary32 tgammafS x ⌝ }
+{
+    if is_nan_f32(x) {
+        return NAN_F32;
+    }
+    bits_of_f32(tgammaf::tgammaf(of_bits_f32(x)))
 }
 
 pub fn erff_bits(x: u32) -> u32

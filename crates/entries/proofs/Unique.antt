@@ -21,6 +21,7 @@ use Rattle.entries.proofs.rvt_erf.Reads as erf
 use Rattle.entries.proofs.rvt_erfc.Reads as erfc
 use Rattle.entries.proofs.rvt_lgammaf_r_value.Reads as valuef
 use Rattle.entries.proofs.rvt_lgammaf_r_sign.Reads as signf
+use Rattle.entries.proofs.rvt_tgammaf.Reads as tgammaf
 use Rattle.entries.proofs.rvt_erff.Reads as erff
 use Rattle.entries.proofs.rvt_erfcf.Reads as erfcf
 use Rattle.entries.proofs.rvt_batch_code.Reads as code
@@ -48,6 +49,9 @@ valuef-determined κs a r r' s s' p q = p ∙ sym q
 
 pub signf-determined : (κs : Lfts 0) (a : _) (r r' : ℤ) (s s' : _) → signf.Post κs a r s → signf.Post κs a r' s' → r ≡ r'
 signf-determined κs a r r' s s' p q = p ∙ sym q
+
+pub tgammaf-determined : (κs : Lfts 0) (a : _) (r r' : ℕ) (s s' : _) → tgammaf.Post κs a r s → tgammaf.Post κs a r' s' → r ≡ r'
+tgammaf-determined κs a r r' s s' p q = p ∙ sym q
 
 pub erff-determined : (κs : Lfts 0) (a : _) (r r' : ℕ) (s s' : _) → erff.Post κs a r s → erff.Post κs a r' s' → r ≡ r'
 erff-determined κs a r r' s s' p q = p ∙ sym q

@@ -12,6 +12,7 @@ ghost use Rattle.tgamma.specs.Tgamma.{tgammaS};
 ghost use Rattle.lgamma.specs.Lgamma64.{lgammaS};
 ghost use Rattle.erf.specs.Erf64.{erfS, erfcS};
 ghost use Rattle.lgammaf.specs.Lgammaf.{lgammafS};
+ghost use Rattle.tgammaf.specs.Tgammaf.{tgammafS};
 ghost use Rattle.erff.specs.Erff.{erffS, erfcfS};
 ghost use Rattle.by_bits.specs.ByBits.{onBits, valueOnBits, signOnBits};
 ghost use Rattle.stream.specs.Batch.{batchS};
@@ -66,6 +67,13 @@ pub extern "C" fn rvt_lgammaf_r_sign(x: u32) -> i32
     ensures { λ r. ⌜ r ≡ signOnBits binary32 lgammafS x ⌝ }
 {
     by_bits::lgammaf_r_bits(x).sign
+}
+
+#[no_mangle]
+pub extern "C" fn rvt_tgammaf(x: u32) -> u32
+    ensures { λ r. ⌜ r ≡ onBits binary32 tgammafS x ⌝ }
+{
+    by_bits::tgammaf_bits(x)
 }
 
 #[no_mangle]

@@ -11,6 +11,7 @@ shapes =
     ∷ shape 3 8 (8 ∷ []) []
     ∷ shape 4 8 (8 ∷ []) []
     ∷ shape 17 4 (4 ∷ []) (sign ∷ [])
+    ∷ shape 18 4 (4 ∷ []) []
     ∷ shape 19 4 (4 ∷ []) []
     ∷ shape 20 4 (4 ∷ []) []
     ∷ []

@@ -9,7 +9,7 @@ ghost use Rattle.kinds.specs.Kinds.{shapeOf};
 // on the stack at each look into it.
 const LOW: u64 = 0x0000_0000_0008_8880;
 
-const HIGH: u64 = 0x0000_0000_0004_4040;
+const HIGH: u64 = 0x0000_0000_0004_4440;
 
 // Hex digit number `i` of a word, counted from the last.
 fn digit(x: u64, i: u8) -> usize

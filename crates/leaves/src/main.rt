@@ -10,7 +10,7 @@
 // 34 floorf          37 size_bits       40 scalbnf(a, b), b an i32
 // 35 wholef's number 38 expf            45 wholef's fraction, 1 or 0
 // 41 erff            43 lgammaf_r: its sign above its value
-// 42 erfcf
+// 42 erfcf           44 tgammaf
 // 48 to 51 hornerf at a, over no coefficient, the first, the first two and all of erff's PP
 // 64 scalbn(a, b), b an i32
 // 65 exp
@@ -50,6 +50,7 @@ use scalbn::scalbn;
 use scalbn::single::scalbnf;
 use sqrt::sqrt;
 use tgamma::tgamma;
+use tgammaf::tgammaf;
 use trig::k_cos;
 use trig::k_sin;
 use trig::single::k_cosf;
@@ -202,6 +203,7 @@ fn function_leaf_f32(leaf: u64, x: f32) -> u64 {
         41 => bits_of_f32(erff(x)) as u64,
         42 => bits_of_f32(erfcf(x)) as u64,
         43 => sign_and_value(x),
+        44 => bits_of_f32(tgammaf(x)) as u64,
         _ => UNKNOWN,
     }
 }
@@ -284,7 +286,7 @@ fn answer_f32(leaf: u64, x: f32, n: i32) -> u64 {
     if leaf < 41 {
         return power_leaf_f32(leaf, x, n);
     }
-    if leaf < 44 {
+    if leaf < 45 {
         return function_leaf_f32(leaf, x);
     }
     if leaf < 48 {

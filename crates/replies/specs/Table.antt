@@ -8,6 +8,7 @@ use Rattle.tgamma.specs.Tgamma.{tgammaS}
 use Rattle.lgamma.specs.Lgamma64.{lgammaS}
 use Rattle.erf.specs.Erf64.{erfS, erfcS}
 use Rattle.lgammaf.specs.Lgammaf.{lgammafS}
+use Rattle.tgammaf.specs.Tgammaf.{tgammafS}
 use Rattle.erff.specs.Erff.{erffS, erfcfS}
 use Rattle.kinds.specs.Shape.{Shape, total, signByte}
 use Rattle.kinds.specs.Kinds.{shapeOf}
@@ -36,6 +37,7 @@ meanings =
     ∷ plain 3 (onBits binary64 erfS)
     ∷ plain 4 (onBits binary64 erfcS)
     ∷ signed 17 (valueOnBits binary32 lgammafS) (signOnBits binary32 lgammafS)
+    ∷ plain 18 (onBits binary32 tgammafS)
     ∷ plain 19 (onBits binary32 erffS)
     ∷ plain 20 (onBits binary32 erfcfS)
     ∷ []

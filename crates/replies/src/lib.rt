@@ -7,6 +7,7 @@ use by_bits::erff_bits;
 use by_bits::lgamma_r_bits;
 use by_bits::lgammaf_r_bits;
 use by_bits::tgamma_bits;
+use by_bits::tgammaf_bits;
 use kinds::sign_byte;
 use records::Reply;
 ghost use mathlib.Core.Path.{_≡_};
@@ -79,6 +80,12 @@ fn lgammaf_r_reply(bits: u64) -> Reply
     signed_number(145, 4, t.value as u64, t.sign)
 }
 
+fn tgammaf_reply(bits: u64) -> Reply
+    ensures { λ r. ⌜ r ≡ replyS 18 bits ⌝ }
+{
+    number(146, 4, tgammaf_bits(low_half(bits)) as u64)
+}
+
 fn erff_reply(bits: u64) -> Reply
     ensures { λ r. ⌜ r ≡ replyS 19 bits ⌝ }
 {
@@ -101,6 +108,7 @@ pub fn reply_to(kind: u8, bits: u64) -> Reply
         3 => erf_reply(bits),
         4 => erfc_reply(bits),
         17 => lgammaf_r_reply(bits),
+        18 => tgammaf_reply(bits),
         19 => erff_reply(bits),
         20 => erfcf_reply(bits),
         _ => number(0, 0, 0),

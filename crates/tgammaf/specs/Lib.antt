@@ -1,0 +1,2 @@
+-- What `tgammaf` promises.
+pub mod Tgammaf
