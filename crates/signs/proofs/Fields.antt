@@ -1,7 +1,7 @@
 -- What specs/Value says of the value of a bit pattern, by the pattern's fields: `Same x s a c` says of x what specs/Pattern says of a sign s and a size
--- a / c, and holds of the value of every finite pattern (`pattern-same`). Assumes nothing.
+-- a / c, and holds of the value of every finite pattern of either format (`pattern-same`). Assumes nothing.
 use mathlib.Core.Path.{_≡_, sym, ap, _∙_, subst}
-use Prim.Native.Nat.{ℕ, zero, suc, _+_, _*_, _/_, _%_, _^_, _<_, _≤_}
+use Prim.Native.Nat.{ℕ, zero, suc, _+_, _-_, _*_, _/_, _%_, _^_, _<_, _≤_}
 use native.Mathlib.Nat.{add-zero, zero-add, zero-mul, mul-comm, mul-assoc, mul-one, mul-pos, mul-right-comm, eq-of-mul-eq-mul-right, pow-succ'}
 use native.Mathlib.Nat.{div-add-mod', mul-mod-left, mod-lt, div-eq-of-lt, pos-of-div-pos, zero-lt-suc, lt-irrefl, lt-of-lt-of-le}
 use native.Mathlib.Omega.{arith}
@@ -9,12 +9,12 @@ use mathlib.Core.Bool.{Bool, true}
 use lib.IntN.{ℤ}
 use lib.Dec.{leb}
 use lib.Pow.{pow-pos, pow-mono}
-use lib.Ieee.{Float, nan, inf, fin, binary64, up, down, ofFields, ofBits}
+use lib.Ieee.{Float, Format, nan, inf, fin, binary32, binary64, prec, low, hid, top, up, down, ofFields, ofBits}
 use lib.Ieee.Exact.{HasValue}
 use lib.Ieee.Fits.{up-pos, down-pos}
 use lib.Ieee.Nearest.{div-same}
 use Rattle.rounding.proofs.Signed.{value-longer}
-use Rattle.rounding.proofs.BitOrder.{scaled, fields-val, bits-open}
+use Rattle.rounding.proofs.BitOrder.{scaled, fields-val, bits-open, hid-pos}
 use Rattle.words.proofs.PatternLaws.{field-rest}
 use Rattle.signs.specs.Value.{Finite, Minus, wholePart, NegativeWhole}
 use Rattle.signs.specs.Pattern.{exponent, fraction, FiniteBits}
@@ -106,12 +106,18 @@ by-fields x s zero F H L f h v =
     less = ap (λ (n : ℕ). n / (L * 2)) (mul-one (H + F)) ∙ div-eq-of-lt (below F H L f h)
 
 -- ---- the pattern n
-pub pattern-same : (n : ℕ) → FiniteBits n
-    → Same (ofBits binary64 n) (leb (2 ^ 63) n) ((2 ^ 52 + fraction n) * 2 ^ exponent n) (2 ^ 1075)
-pattern-same n h =
-    let s = leb (2 ^ 63) n in
-    let room : 52 ≤ 1074 = omega arith in
-    by-fields (ofBits binary64 n) s (exponent n) (fraction n) (2 ^ 52) (2 ^ 1074) (mod-lt n (pow-pos 52)) (pow-mono room)
-    (subst (λ (z : Float). HasValue z s (scaled (exponent n) (fraction n) (2 ^ 52)) (2 ^ 1074))
-    (sym (bits-open binary64 n ∙ ap (λ (E : ℕ). ofFields binary64 s E (fraction n)) (field-rest binary64 n)))
-    (fields-val binary64 s (exponent n) (fraction n) h))
+pub pattern-same : (f : Format) (n : ℕ) → FiniteBits f n
+    → Same (ofBits f n) (leb (top f) n) ((hid f + fraction f n) * 2 ^ exponent f n) (2 ^ suc (low f))
+pattern-same f n h =
+    let s = leb (top f) n in
+    let E = exponent f n in
+    let F = fraction f n in
+    subst (Same (ofBits f n) s ((hid f + F) * 2 ^ E)) (mul-comm (2 ^ low f) 2 ∙ sym (pow-succ' 2 (low f)))
+    (by-fields (ofBits f n) s E F (hid f) (2 ^ low f) (mod-lt n (hid-pos f)) (pow-mono (room f))
+    (subst (λ (z : Float). HasValue z s (scaled E F (hid f)) (2 ^ low f))
+    (sym (bits-open f n ∙ ap (λ (E : ℕ). ofFields f s E F) (field-rest f n)))
+    (fields-val f s E F h)))
+  where
+    room : (f : Format) → prec f - 1 ≤ low f
+    room binary32 = omega arith
+    room binary64 = omega arith

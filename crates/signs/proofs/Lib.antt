@@ -13,9 +13,9 @@ pub mod Reflection
 pub mod Negative
 -- Regions: tgamma's sign, whichever formula gives the answer
 pub mod Regions
--- Cases: tgamma and lgamma_r together, by the sign and the whole part of x
+-- Cases: a gamma function and a log-gamma together, by the sign and the whole part of x; and what that says, over the format
 pub mod Cases
--- Signs: THE THEOREM, of values
+-- Signs: THE THEOREM, of values, in f64 and in f32
 pub mod Signs
 -- Fields: the value of a bit pattern, by its fields
 pub mod Fields

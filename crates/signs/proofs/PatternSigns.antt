@@ -1,90 +1,132 @@
--- THE THEOREM on bit patterns, in the words of specs/Pattern: for the 64 bits n of a finite f64 that is no negative whole number, tgamma's bits r are no
--- NaN's (`no-nan-bits`), and their sign bit is set exactly where lgamma_r's sign g is -1 (`same-sign-bits`), which is exactly where n's sign bit is set and
--- the whole part of the size is even (`sign-rule-bits`). g is 1 or -1 for any n (`reports-bits`). At a negative whole number r is the NaN's pattern and g
--- is 1 (`at-poles-bits`). The right sides `toBits binary64 (tgammaS (ofBits binary64 n))` and `lgammaS (ofBits binary64 n) .sign` are those of the contracts
--- of the C entries `rvt_tgamma` and `rvt_lgamma_r_sign`: r and g are any answers that these allow for the argument n, which has 64 bits. `pos 1` and
--- `negsuc 0` are 1 and -1. Assumes nothing.
+-- THE THEOREM on bit patterns, in the words of specs/Promises: for the 64 bits n of a finite f64 that is no negative whole number, tgamma's bits r are no
+-- NaN's (`no-nan-bits`), and their sign bit is set exactly where lgamma_r's sign is -1 (`same-sign-bits`), which is exactly where n's sign bit is set and
+-- the whole part of the size is even (`sign-rule-bits`). The sign is 1 or -1 for any n (`reports-bits`). At a negative whole number r is the NaN's pattern
+-- and the sign 1 (`at-poles-bits`). And the same of the 32 bits of an f32, of tgammaf with lgammaf_r and with lgamma_r. What is true of the values of a
+-- format is true of its bits, whichever the functions are (`OfBits`). Assumes nothing.
 use mathlib.Core.Path.{_≡_, sym, ap, _∙_, subst}
 use mathlib.Core.Logic.{_⊎_}
 use Prim.Native.Nat.{ℕ, _+_, _*_, _/_, _%_, _^_, _<_}
 use native.Mathlib.Omega.{arith}
 use mathlib.Core.Bool.{true}
 use lib.IntN.{ℤ, pos, negsuc}
-use lib.Dec.{leb}
-use lib.Ieee.{Float, nan, binary64, toBits, ofBits}
+use lib.Dec.{T, leb}
+use lib.Ieee.{Float, Format, nan, binary32, binary64, hid, ones, top, fits, toBits, ofBits}
 use lib.Ieee.Bits.{ofBits-fits, ofBits-toBits}
 use borrow.Author.Tests.{le-leb, leb-true}
 use Rattle.words.proofs.PatternLaws.{pattern-nan, rest-is}
 use Rattle.lgamma.specs.Plan.{Answer}
 use Rattle.lgamma.specs.Lgamma64.{lgammaS}
+use Rattle.lgammaf.specs.Lgammaf.{lgammafS}
 use Rattle.tgamma.specs.Tgamma.{tgammaS}
-use Rattle.signs.specs.Value.{NegativeWhole}
-use Rattle.signs.specs.Pattern.{signBit, exponent, fraction, FiniteBits, NanBits, wholePartBits, NegativeWholeBits}
 use Rattle.tgamma.proofs.Fits.{tgamma-fits}
+use Rattle.tgammaf.specs.Tgammaf.{tgammafS}
+use Rattle.tgammaf.proofs.Narrowed.{tgammaf-fits}
+use Rattle.signs.specs.Value.{NegativeWhole}
+use Rattle.signs.specs.Pattern.{signBit, exponent, fraction, FiniteBits, NanBits, NegativeWholeBits}
+use Rattle.signs.specs.Promises.{NoNan, SameSign, SignRule, AtPoles, Reports, NoNanBits, SameSignBits, SignRuleBits, AtPolesBits, ReportsBits}
 use Rattle.signs.proofs.Fields.{pattern-same}
 use Rattle.signs.proofs.Signs.{no-nan, same-sign, sign-rule, reports, at-poles}
+use Rattle.signs.proofs.Signs.{no-nan-f32, same-sign-f32, same-sign-wide, sign-rule-f32, reports-f32, at-poles-f32}
 
 -- ---- the sign bit of n, and the test for it
-bit-test : (n : ℕ) → n / 2 ^ 63 ≡ 1 → leb (2 ^ 63) n ≡ true
-bit-test n h = le-leb (2 ^ 63) n (omega arith)
+bit-test : (f : Format) (n : ℕ) → signBit f n ≡ 1 → leb (top f) n ≡ true
+bit-test binary32 n h = le-leb (2 ^ 31) n (omega arith)
+bit-test binary64 n h = le-leb (2 ^ 63) n (omega arith)
 
-test-bit : (n : ℕ) → n < 2 ^ 64 → leb (2 ^ 63) n ≡ true → n / 2 ^ 63 ≡ 1
-test-bit n l h = let k = leb-true (2 ^ 63) n h in omega arith
+test-bit : (f : Format) (n : ℕ) → n < 2 * top f → leb (top f) n ≡ true → signBit f n ≡ 1
+test-bit binary32 n l h = let k = leb-true (2 ^ 31) n h in omega arith
+test-bit binary64 n l h = let k = leb-true (2 ^ 63) n h in omega arith
 
 -- the value is a negative whole number exactly where the bits are one's
-bits-whole : (n : ℕ) → n < 2 ^ 64 → FiniteBits n → NegativeWhole (ofBits binary64 n) → NegativeWholeBits n
-bits-whole n l f h = let k = pattern-same n f .whole h in (test-bit n l (k .0), k .1, k .2)
+bits-whole : (f : Format) (n : ℕ) → n < 2 * top f → FiniteBits f n → NegativeWhole (ofBits f n) → NegativeWholeBits f n
+bits-whole f n l h w = let k = pattern-same f n h .whole w in (test-bit f n l (k .0), k .1, k .2)
 
-whole-bits : (n : ℕ) → FiniteBits n → NegativeWholeBits n → NegativeWhole (ofBits binary64 n)
-whole-bits n f h = pattern-same n f .pole (bit-test n (h .0), h .1, h .2)
+whole-bits : (f : Format) (n : ℕ) → FiniteBits f n → NegativeWholeBits f n → NegativeWhole (ofBits f n)
+whole-bits f n h w = pattern-same f n h .pole (bit-test f n (w .0), w .1, w .2)
 
 -- the bits of a NaN are its value's
-nan-value : (x : Float) (r : ℕ) → ofBits binary64 r ≡ x → NanBits r → nan ≡ x
-nan-value x r e h =
-    pattern-nan binary64 r (rw (rest-is binary64 r) (above (exponent r) (fraction r) (h .0) (h .1))) ∙ e
+nan-value : (f : Format) (x : Float) (r : ℕ) → ofBits f r ≡ x → NanBits f r → nan ≡ x
+nan-value f x r e h =
+    pattern-nan f r (rw (rest-is f r)
+    (subst (λ (E : ℕ). ones f * hid f < E * hid f + fraction f r) (sym (h .0)) (more (ones f * hid f) (fraction f r) (h .1)))) ∙ e
   where
-    above : (E F : ℕ) → E ≡ 2047 → 0 < F → 2047 * 2 ^ 52 < E * 2 ^ 52 + F
-    above E F h k = omega arith
+    more : (a F : ℕ) → 0 < F → a < a + F
+    more a F h = omega arith
+
+-- ---- from values to bits, in either format
+module _ (f : Format) (g : Float → Float) (g-fits : (x : Float) → T (fits f (g x))) where
+  no-nan-of : NoNan f g → NoNanBits f g
+  no-nan-of k n r l h w e d =
+      let x = ofBits f n in
+      k x (ofBits-fits f n) (pattern-same f n h .finite) (λ p. w (bits-whole f n l h p))
+      (sym (nan-value f (g x) r (ap (ofBits f) e ∙ ofBits-toBits f (g x) (g-fits x)) d))
+
+  sign-rule-of : SignRule f g → SignRuleBits f g
+  sign-rule-of k n r l h w e =
+      let v = pattern-same f n h in
+      let t = k (ofBits f n) (ofBits-fits f n) (v .finite) (λ p. w (bits-whole f n l h p)) in
+      let q = ap (λ (z : ℕ). z % 2) (v .part) in (
+        λ d. let p = t .0 (sym (ap (signBit f) e) ∙ d) in (test-bit f n l (v .minus (p .0)), sym q ∙ p .1),
+        λ d. ap (signBit f) e ∙ t .1 (v .back (bit-test f n (d .0)), q ∙ d .1),
+      )
+
+module _ (f : Format) (g : Float → Float) (l : Float → Answer) where
+  same-sign-of : SameSign f g l → SameSignBits f g l
+  same-sign-of k n r s u h w e d =
+      let t = k (ofBits f n) (ofBits-fits f n) (pattern-same f n h .finite) (λ p. w (bits-whole f n u h p)) in
+      (λ b. d ∙ t .0 (sym (ap (signBit f) e) ∙ b), λ b. ap (signBit f) e ∙ t .1 (sym d ∙ b))
+
+  at-poles-of : AtPoles f g l → AtPolesBits f g l
+  at-poles-of k n r s h w e d =
+      let t = k (ofBits f n) (ofBits-fits f n) (whole-bits f n h w) in
+      (e ∙ ap (toBits f) (t .0), d ∙ ap (λ (a : Answer). a .sign) (t .1))
+
+reports-of : (f : Format) (l : Float → Answer) → Reports f l → ReportsBits f l
+reports-of f l k n s d = subst (λ (z : ℤ). (z ≡ pos 1) ⊎ (z ≡ negsuc 0)) (sym d) (k (ofBits f n) (ofBits-fits f n))
+
+-- ---- the 64 bits of an f64
 
 -- 1. tgamma's bits are no NaN's
-pub no-nan-bits : (n r : ℕ) → n < 2 ^ 64 → FiniteBits n → (NegativeWholeBits n → ⊥)
-    → r ≡ toBits binary64 (tgammaS (ofBits binary64 n))
-    → NanBits r → ⊥
-no-nan-bits n r l f w e h =
-    let x = ofBits binary64 n in
-    no-nan x (ofBits-fits binary64 n) (pattern-same n f .finite) (λ k. w (bits-whole n l f k))
-    (sym (nan-value (tgammaS x) r (ap (ofBits binary64) e ∙ ofBits-toBits binary64 (tgammaS x) (tgamma-fits x)) h))
+pub no-nan-bits : NoNanBits binary64 tgammaS
+no-nan-bits = no-nan-of binary64 tgammaS tgamma-fits no-nan
 
 -- 2. their sign bit is set exactly where lgamma_r's sign is -1
-pub same-sign-bits : (n r : ℕ) (g : ℤ) → n < 2 ^ 64 → FiniteBits n → (NegativeWholeBits n → ⊥)
-    → r ≡ toBits binary64 (tgammaS (ofBits binary64 n)) → g ≡ lgammaS (ofBits binary64 n) .sign
-    → (signBit r ≡ 1 → g ≡ negsuc 0) × (g ≡ negsuc 0 → signBit r ≡ 1)
-same-sign-bits n r g l f w e d =
-    let k = same-sign (ofBits binary64 n) (ofBits-fits binary64 n) (pattern-same n f .finite) (λ k. w (bits-whole n l f k)) in
-    (λ h. d ∙ k .0 (sym (ap signBit e) ∙ h), λ h. ap signBit e ∙ k .1 (sym d ∙ h))
+pub same-sign-bits : SameSignBits binary64 tgammaS lgammaS
+same-sign-bits = same-sign-of binary64 tgammaS lgammaS same-sign
 
 -- 3. that sign bit is set exactly where n's is and the whole part of the size is even
-pub sign-rule-bits : (n r : ℕ) → n < 2 ^ 64 → FiniteBits n → (NegativeWholeBits n → ⊥)
-    → r ≡ toBits binary64 (tgammaS (ofBits binary64 n))
-    → (signBit r ≡ 1 → (signBit n ≡ 1) × (wholePartBits n % 2 ≡ 0))
-    × ((signBit n ≡ 1) × (wholePartBits n % 2 ≡ 0) → signBit r ≡ 1)
-sign-rule-bits n r l f w e =
-    let v = pattern-same n f in
-    let k = sign-rule (ofBits binary64 n) (ofBits-fits binary64 n) (v .finite) (λ k. w (bits-whole n l f k)) in
-    let q = ap (λ (z : ℕ). z % 2) (v .part) in (
-      λ h. let p = k .0 (sym (ap signBit e) ∙ h) in (test-bit n l (v .minus (p .0)), sym q ∙ p .1),
-      λ h. ap signBit e ∙ k .1 (v .back (bit-test n (h .0)), q ∙ h .1),
-    )
+pub sign-rule-bits : SignRuleBits binary64 tgammaS
+sign-rule-bits = sign-rule-of binary64 tgammaS tgamma-fits sign-rule
 
--- At a negative whole number tgamma's bits are the NaN's pattern, and lgamma_r's sign is 1
-pub at-poles-bits : (n r : ℕ) (g : ℤ) → FiniteBits n → NegativeWholeBits n
-    → r ≡ toBits binary64 (tgammaS (ofBits binary64 n)) → g ≡ lgammaS (ofBits binary64 n) .sign
-    → (r ≡ 0x7FF8000000000000) × (g ≡ pos 1)
-unfolding toBits
-at-poles-bits n r g f h e d =
-    let k = at-poles (ofBits binary64 n) (ofBits-fits binary64 n) (whole-bits n f h) in
-    (e ∙ ap (toBits binary64) (k .0), d ∙ ap (λ (a : Answer). a .sign) (k .1))
+-- at a negative whole number
+pub at-poles-bits : AtPolesBits binary64 tgammaS lgammaS
+at-poles-bits = at-poles-of binary64 tgammaS lgammaS at-poles
 
--- lgamma_r's sign is 1 or -1, whatever the bits
-pub reports-bits : (n : ℕ) (g : ℤ) → g ≡ lgammaS (ofBits binary64 n) .sign → (g ≡ pos 1) ⊎ (g ≡ negsuc 0)
-reports-bits n g d = subst (λ (z : ℤ). (z ≡ pos 1) ⊎ (z ≡ negsuc 0)) (sym d) (reports (ofBits binary64 n) (ofBits-fits binary64 n))
+-- lgamma_r's sign is 1 or -1
+pub reports-bits : ReportsBits binary64 lgammaS
+reports-bits = reports-of binary64 lgammaS reports
+
+-- ---- the 32 bits of an f32
+
+-- 1. tgammaf's bits are no NaN's
+pub no-nan-bits-f32 : NoNanBits binary32 tgammafS
+no-nan-bits-f32 = no-nan-of binary32 tgammafS tgammaf-fits no-nan-f32
+
+-- 2. their sign bit is set exactly where lgammaf_r's sign is -1, and where lgamma_r's is
+pub same-sign-bits-f32 : SameSignBits binary32 tgammafS lgammafS
+same-sign-bits-f32 = same-sign-of binary32 tgammafS lgammafS same-sign-f32
+
+pub same-sign-bits-wide : SameSignBits binary32 tgammafS lgammaS
+same-sign-bits-wide = same-sign-of binary32 tgammafS lgammaS same-sign-wide
+
+-- 3. that sign bit is set exactly where n's is and the whole part of the size is even
+pub sign-rule-bits-f32 : SignRuleBits binary32 tgammafS
+sign-rule-bits-f32 = sign-rule-of binary32 tgammafS tgammaf-fits sign-rule-f32
+
+-- at a negative whole number
+pub at-poles-bits-f32 : AtPolesBits binary32 tgammafS lgammafS
+at-poles-bits-f32 = at-poles-of binary32 tgammafS lgammafS at-poles-f32
+
+-- lgammaf_r's sign is 1 or -1
+pub reports-bits-f32 : ReportsBits binary32 lgammafS
+reports-bits-f32 = reports-of binary32 lgammafS reports-f32

@@ -1,65 +1,77 @@
--- THE THEOREM: for every finite f64 x that is no negative whole number, tgamma(x) is no NaN (`no-nan`), and its sign bit is set exactly where lgamma_r(x)
--- reports the sign -1 (`same-sign`), which is exactly where x carries a minus sign and the whole part of its size is even (`sign-rule`). lgamma_r reports
--- +1 or -1 for every f64, the infinities and the NaN included (`reports`). At a negative whole number tgamma is NaN and lgamma_r reports +1 (`at-poles`).
--- tgammaS and lgammaS are the definitions that the functions tgamma and lgamma_r are proved to equal, for every f64; `T (fits binary64 x)` says that x is
--- an f64, `signS binary64 y` is the sign bit of y, 1 or 0, and `pos 1` and `negsuc 0` are +1 and -1. Finite, NegativeWhole, Minus and wholePart are
--- those of specs/Value. The zeros are finite and no negative whole numbers, and -0 carries a minus sign. An answer may be an infinity or a zero: its sign
--- is its sign bit all the same. Assumes nothing.
-use mathlib.Core.Path.{_≡_, sym, ap, _∙_, subst}
+-- THE THEOREM, in the words of specs/Promises: for every finite f64 x that is no negative whole number, tgamma(x) is no NaN (`no-nan`), and its sign bit is
+-- set exactly where lgamma_r(x) reports the sign -1 (`same-sign`), which is exactly where x carries a minus sign and the whole part of its size is even
+-- (`sign-rule`). lgamma_r reports +1 or -1 for every f64, the infinities and the NaN included (`reports`). At a negative whole number tgamma is NaN and
+-- lgamma_r reports +1 (`at-poles`). And the same in f32, of tgammaf with lgammaf_r, and with lgamma_r of the same number: an answer that overflows or
+-- vanishes in f32 keeps its sign. tgammaS, lgammaS, tgammafS and lgammafS are the definitions that the functions are proved to equal. Assumes nothing.
+use mathlib.Core.Path.{_≡_, sym, ap, subst}
 use mathlib.Core.Logic.{_⊎_, inl, inr}
-use Prim.Native.Nat.{_%_}
-use mathlib.Core.Bool.{Bool, true, false, cond, false≢true}
-use lib.IntN.{pos, negsuc}
-use lib.Dec.{T}
-use lib.Ieee.{Float, nan, inf, fin, binary64, fits}
-use Rattle.rounding.proofs.Signed.{Signed}
-use Rattle.words.specs.Bits.{signS}
+use lib.IntN.{ℤ, pos, negsuc}
+use lib.Ieee.{Float, nan, inf, fin, binary32, binary64}
+use lib.Ieee.Fits.{fits-widens}
 use Rattle.lgamma.specs.Plan.{Answer}
 use Rattle.lgamma.specs.Lgamma64.{lgammaS}
 use Rattle.lgamma.proofs.SignLaw.{at-pole}
 use Rattle.lgamma.proofs.SpecialValues.{lgamma-special}
+use Rattle.lgammaf.specs.Lgammaf.{lgammafS}
+use Rattle.lgammaf.proofs.SameSign as Single
+use Rattle.lgammaf.proofs.SignLaw.{lgammaf-pole}
 use Rattle.tgamma.specs.Tgamma.{tgammaS}
-use Rattle.tgamma.proofs.SpecialValues.{tgamma-negative-whole}
-use Rattle.signs.specs.Value.{Finite, Minus, wholePart, NegativeWhole}
-use Rattle.signs.proofs.Cases.{case, tgamma-bit, bit-minus, code, code-minus, code-is, decide}
+use Rattle.tgamma.proofs.Fits.{tgamma-fits}
+use Rattle.tgamma.proofs.SpecialValues.{tgamma-special}
+use Rattle.tgammaf.specs.Tgammaf.{tgammafS}
+use Rattle.tgammaf.proofs.Narrowed.{tgammaf-fits}
+use Rattle.tgammaf.proofs.SpecialValues.{tgammaf-special}
+use Rattle.signs.specs.Promises.{NoNan, SameSign, SignRule, AtPoles, Reports}
+use Rattle.signs.proofs.Cases.{case, case-f32, case-wide, from-cases, poles-of, code-is, decide}
 
 -- 1. tgamma(x) is no NaN
-pub no-nan : (x : Float) → T (fits binary64 x) → Finite x → (NegativeWhole x → ⊥)
-    → tgammaS x ≡ nan → ⊥
-no-nan x F f n e = let c = case x F f n in subst (Signed (c .sign)) e (c .tgamma)
+pub no-nan : NoNan binary64 tgammaS
+no-nan = from-cases binary64 tgammaS lgammaS tgamma-fits case .no-nan
 
 -- 2. its sign bit is set exactly where lgamma_r(x) reports -1
-pub same-sign : (x : Float) → T (fits binary64 x) → Finite x → (NegativeWhole x → ⊥)
-    → (signS binary64 (tgammaS x) ≡ 1 → lgammaS x .sign ≡ negsuc 0)
-    × (lgammaS x .sign ≡ negsuc 0 → signS binary64 (tgammaS x) ≡ 1)
-same-sign x F f n =
-    let c = case x F f n in (
-      λ h. c .lgamma ∙ ap code (bit-minus (c .sign) (sym (tgamma-bit x c) ∙ h)),
-      λ h. tgamma-bit x c ∙ ap (λ (s : Bool). cond s 1 0) (code-minus (c .sign) (sym (c .lgamma) ∙ h)),
-    )
+pub same-sign : SameSign binary64 tgammaS lgammaS
+same-sign = from-cases binary64 tgammaS lgammaS tgamma-fits case .same-sign
 
 -- 3. that sign is minus exactly where x carries a minus sign and the whole part of its size is even
-pub sign-rule : (x : Float) → T (fits binary64 x) → Finite x → (NegativeWhole x → ⊥)
-    → (signS binary64 (tgammaS x) ≡ 1 → Minus x × (wholePart x % 2 ≡ 0))
-    × (Minus x × (wholePart x % 2 ≡ 0) → signS binary64 (tgammaS x) ≡ 1)
-sign-rule x F f n =
-    let c = case x F f n in
-    (λ h. c .minus (bit-minus (c .sign) (sym (tgamma-bit x c) ∙ h)), λ h. tgamma-bit x c ∙ ap (λ (s : Bool). cond s 1 0) (c .only h))
+pub sign-rule : SignRule binary64 tgammaS
+sign-rule = from-cases binary64 tgammaS lgammaS tgamma-fits case .sign-rule
 
--- At a negative whole number tgamma is NaN, and lgamma_r is +inf with the sign +1
-pub at-poles : (x : Float) → T (fits binary64 x) → NegativeWhole x
-    → (tgammaS x ≡ nan) × (lgammaS x ≡ record { value = inf false; sign = pos 1 })
-at-poles nan F h = absurd h
-at-poles (inf s) F h = absurd h
-at-poles (fin false m e) F h = absurd (false≢true (h .0))
-at-poles (fin true m e) F h = (tgamma-negative-whole m e F (h .1) (h .2), at-pole m e F (h .1) (h .2))
+-- at a negative whole number
+pub at-poles : AtPoles binary64 tgammaS lgammaS
+at-poles = poles-of binary64 tgammaS lgammaS tgamma-special at-pole
 
--- lgamma_r reports +1 or -1, and nothing else, for every f64: the infinities, the NaN and the negative whole numbers included
-pub reports : (x : Float) → T (fits binary64 x) → (lgammaS x .sign ≡ pos 1) ⊎ (lgammaS x .sign ≡ negsuc 0)
+-- lgamma_r reports +1 or -1, and nothing else
+pub reports : Reports binary64 lgammaS
 reports nan F = inl (ap (λ (a : Answer). a .sign) (lgamma-special .at-nan))
 reports (inf s) F = inl (ap (λ (a : Answer). a .sign) (lgamma-special .at-infinity s))
 reports (fin s m e) F =
     elim (decide (fin s m e)) [
       | inl h ↦ inl (ap (λ (a : Answer). a .sign) (at-poles (fin s m e) F h .1))
-      | inr n ↦ let c = case (fin s m e) F tt n in code-is (c .sign) _ (c .lgamma)
+      | inr n ↦ let c = case (fin s m e) F tt n in code-is (c .sign) _ (c .log)
     ]
+
+-- ---- in f32
+
+-- 1. tgammaf(x) is no NaN
+pub no-nan-f32 : NoNan binary32 tgammafS
+no-nan-f32 = from-cases binary32 tgammafS lgammafS tgammaf-fits case-f32 .no-nan
+
+-- 2. its sign bit is set exactly where lgammaf_r(x) reports -1, and where lgamma_r(x) does
+pub same-sign-f32 : SameSign binary32 tgammafS lgammafS
+same-sign-f32 = from-cases binary32 tgammafS lgammafS tgammaf-fits case-f32 .same-sign
+
+pub same-sign-wide : SameSign binary32 tgammafS lgammaS
+same-sign-wide = from-cases binary32 tgammafS lgammaS tgammaf-fits case-wide .same-sign
+
+-- 3. that sign is minus exactly where x carries a minus sign and the whole part of its size is even
+pub sign-rule-f32 : SignRule binary32 tgammafS
+sign-rule-f32 = from-cases binary32 tgammafS lgammafS tgammaf-fits case-f32 .sign-rule
+
+-- at a negative whole number
+pub at-poles-f32 : AtPoles binary32 tgammafS lgammafS
+at-poles-f32 = poles-of binary32 tgammafS lgammafS tgammaf-special lgammaf-pole
+
+-- lgammaf_r reports +1 or -1, and nothing else
+pub reports-f32 : Reports binary32 lgammafS
+reports-f32 x F =
+    subst (λ (z : ℤ). (z ≡ pos 1) ⊎ (z ≡ negsuc 0)) (sym (Single.same-sign x F)) (reports x (fits-widens x F))
