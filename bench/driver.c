@@ -11,8 +11,8 @@
  * and the best of REPEATS passes counts. After each turn every answer of the port is held to the Rust's, and of the feed to
  * the batch's: where one differs, the function and the argument are said and the status is 1. musl's functions are those of
  * its libc.a with the prefix musl_, where HAVE_MUSL is set; the entries of an earlier port have the prefix earlier_, where
- * HAVE_EARLIER is set, and its answers are held to the port's. The feed is timed where HAVE_FEED is set. kinds.h is made from
- * kinds.txt, and a function finds its kind there by its name.
+ * HAVE_EARLIER is set, and its answers are held to the port's. The feed is timed where HAVE_FEED is set, and tgammaf where
+ * WITHOUT_tgammaf is not. kinds.h is made from kinds.txt, and a function finds its kind there by its name.
  */
 #define _GNU_SOURCE
 #include "raveltrellis.h"
@@ -27,7 +27,7 @@
 enum { COUNT = 4000, REPEATS = 300, PORT = 0, RUST = 1, EARLIER = 2, LIBRARIES = 5, LONGEST = 32, SHOWN = 20 };
 
 uint64_t rust_tgamma(uint64_t x), rust_lgamma_r(uint64_t x), rust_erf(uint64_t x), rust_erfc(uint64_t x);
-uint32_t rust_lgammaf_r(uint32_t x), rust_erff(uint32_t x), rust_erfcf(uint32_t x);
+uint32_t rust_lgammaf_r(uint32_t x), rust_tgammaf(uint32_t x), rust_erff(uint32_t x), rust_erfcf(uint32_t x);
 void rust_erf_records(const uint8_t *requests, size_t count, uint8_t *answers);
 uint64_t rust_batch_code(const uint8_t *, size_t, uint8_t *, size_t);
 
@@ -47,17 +47,19 @@ BY_BITS(glibc_lgamma_r, lgamma_r(f64_of(x), &sign))
 BY_BITS(glibc_erf, erf(f64_of(x)))
 BY_BITS(glibc_erfc, erfc(f64_of(x)))
 BY_BITS_F32(glibc_lgammaf_r, lgammaf_r(f32_of(x), &sign))
+BY_BITS_F32(glibc_tgammaf, tgammaf(f32_of(x)))
 BY_BITS_F32(glibc_erff, erff(f32_of(x)))
 BY_BITS_F32(glibc_erfcf, erfcf(f32_of(x)))
 
 #ifdef HAVE_MUSL
 double musl_tgamma(double), musl_lgamma_r(double, int *), musl_erf(double), musl_erfc(double);
-float musl_lgammaf_r(float, int *), musl_erff(float), musl_erfcf(float);
+float musl_lgammaf_r(float, int *), musl_tgammaf(float), musl_erff(float), musl_erfcf(float);
 BY_BITS(by_musl_tgamma, musl_tgamma(f64_of(x)))
 BY_BITS(by_musl_lgamma_r, musl_lgamma_r(f64_of(x), &sign))
 BY_BITS(by_musl_erf, musl_erf(f64_of(x)))
 BY_BITS(by_musl_erfc, musl_erfc(f64_of(x)))
 BY_BITS_F32(by_musl_lgammaf_r, musl_lgammaf_r(f32_of(x), &sign))
+BY_BITS_F32(by_musl_tgammaf, musl_tgammaf(f32_of(x)))
 BY_BITS_F32(by_musl_erff, musl_erff(f32_of(x)))
 BY_BITS_F32(by_musl_erfcf, musl_erfcf(f32_of(x)))
 #define MUSL(name) by_musl_##name
@@ -67,7 +69,7 @@ BY_BITS_F32(by_musl_erfcf, musl_erfcf(f32_of(x)))
 
 #ifdef HAVE_EARLIER
 uint64_t earlier_rvt_tgamma(uint64_t), earlier_rvt_lgamma_r_value(uint64_t), earlier_rvt_erf(uint64_t), earlier_rvt_erfc(uint64_t);
-uint32_t earlier_rvt_lgammaf_r_value(uint32_t), earlier_rvt_erff(uint32_t), earlier_rvt_erfcf(uint32_t);
+uint32_t earlier_rvt_lgammaf_r_value(uint32_t), earlier_rvt_tgammaf(uint32_t), earlier_rvt_erff(uint32_t), earlier_rvt_erfcf(uint32_t);
 uint64_t earlier_rvt_batch_code(const uint8_t *, size_t, uint8_t *, size_t);
 #define EARLIER_OF(entry) earlier_##entry
 enum { SIDES = 3 };
@@ -117,6 +119,7 @@ static const struct regions GAMMA = {8, {0x1p-60, 0x1p-54, 0.5, 1, 5.5, 8, 23, 1
 static const struct regions LGAMMA = {9, {0x1p-80, 0x1p-70, 0.23, 0.73, 1.23, 1.73, 2, 8, 0x1p58, 0x1p70}};
 static const struct regions ERF = {7, {0x1p-60, 0x1p-28, 0.25, 0.84375, 1.25, 2.857, 6, 10}};
 static const struct regions ERFC = {7, {0x1p-60, 0x1p-56, 0.25, 0.84375, 1.25, 2.857, 28, 40}};
+static const struct regions GAMMAF = {9, {0x1p-60, 0x1p-54, 0.5, 1, 5.5, 8, 23, 35.04, 184, 200}};
 static const struct regions LGAMMAF = {9, {0x1p-30, 0x1p-21, 0.23, 0.73, 1.23, 1.73, 2, 8, 0x1p58, 0x1p70}};
 
 /* A function of each library: of f64, or of f32. A log-gamma is timed by its value. */
@@ -133,6 +136,9 @@ static const struct function FUNCTIONS[] = {
     {"erf", &ERF, {rvt_erf, rust_erf, EARLIER_OF(rvt_erf), glibc_erf, MUSL(erf)}, {NULL}},
     {"erfc", &ERFC, {rvt_erfc, rust_erfc, EARLIER_OF(rvt_erfc), glibc_erfc, MUSL(erfc)}, {NULL}},
     {"lgammaf_r", &LGAMMAF, {NULL}, {rvt_lgammaf_r_value, rust_lgammaf_r, EARLIER_OF(rvt_lgammaf_r_value), glibc_lgammaf_r, MUSL(lgammaf_r)}},
+#ifndef WITHOUT_tgammaf
+    {"tgammaf", &GAMMAF, {NULL}, {rvt_tgammaf, rust_tgammaf, EARLIER_OF(rvt_tgammaf), glibc_tgammaf, MUSL(tgammaf)}},
+#endif
     {"erff", &ERF, {NULL}, {rvt_erff, rust_erff, EARLIER_OF(rvt_erff), glibc_erff, MUSL(erff)}},
     {"erfcf", &ERFC, {NULL}, {rvt_erfcf, rust_erfcf, EARLIER_OF(rvt_erfcf), glibc_erfcf, MUSL(erfcf)}},
 };

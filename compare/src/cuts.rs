@@ -63,6 +63,21 @@ pub const SINGLE_CUTS: [u32; 25] = [
     0x5c80_0000,
 ];
 
+/// The sizes at which tgammaf changes: those that tgamma.rs tests, in f32; up to which, and from which on, it is
+/// infinite; and those of the negative numbers at which it is first subnormal, first 0, and last not 0.
+pub const TGAMMAF_CUTS: [u32; 10] = [
+    0x0020_0000,
+    0x2480_0000,
+    0x40b0_ca2e,
+    0x4100_0000,
+    0x41b8_0000,
+    0x4208_ab04,
+    0x420c_2910,
+    0x421a_67d9,
+    0x4224_000b,
+    0x4338_0000,
+];
+
 /// The bound that tgamma.rs compares the size with.
 pub const GMHALF: f64 = 5.524680040776729583740234375;
 

@@ -15,11 +15,11 @@ use std::path::{Path, PathBuf};
 /// The patterns of one sign and exponent.
 pub const BLOCK: u64 = 1 << 23;
 
-/// The leaves whose one argument is an f32: words and whole parts, expf, logf and the three functions.
+/// The leaves whose one argument is an f32: words and whole parts, expf, logf and the four functions.
 pub fn leaves() -> impl Iterator<Item = &'static Leaf> {
     LEAVES
         .iter()
-        .filter(|l| matches!(l.number, 33..=39 | 41..=43 | 45))
+        .filter(|l| matches!(l.number, 33..=39 | 41..=45))
 }
 
 /// The blocks that agreed, of one build of the program and one of the Rust side: a line of their marks,
@@ -150,6 +150,6 @@ mod tests {
     #[test]
     fn every_pattern_is_in_a_block() {
         assert_eq!(512 * BLOCK, 1 << 32);
-        assert_eq!(leaves().count(), 11);
+        assert_eq!(leaves().count(), 12);
     }
 }

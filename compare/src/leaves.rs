@@ -74,7 +74,7 @@ const fn leaf(number: u64, name: &'static str, width: Width) -> Leaf {
     }
 }
 
-pub const LEAVES: [Leaf; 51] = [
+pub const LEAVES: [Leaf; 52] = [
     leaf(1, "fabs", Width::Double),
     leaf(2, "floor", Width::Double),
     leaf(3, "whole", Width::Double),
@@ -102,6 +102,7 @@ pub const LEAVES: [Leaf; 51] = [
     leaf(41, "erff", Width::Single),
     leaf(42, "erfcf", Width::Single),
     leaf(43, "lgammaf_r", Width::Single),
+    leaf(44, "tgammaf", Width::Single),
     leaf(45, "wholef, fraction", Width::Single),
     leaf(48, "hornerf of 0", Width::Single),
     leaf(49, "hornerf of 1", Width::Single),
@@ -133,7 +134,7 @@ pub const LEAVES: [Leaf; 51] = [
 fn value_width(leaf: u64) -> Option<Width> {
     match leaf {
         1 | 2 | 9 | 10 | 16..=20 | 64..=71 | 80..=82 | 84 => Some(Width::Double),
-        4 | 33 | 34 | 38..=43 | 48..=51 | 72 | 73 => Some(Width::Single),
+        4 | 33 | 34 | 38..=44 | 48..=51 | 72 | 73 => Some(Width::Single),
         _ => None,
     }
 }
@@ -276,6 +277,7 @@ fn answer_single(leaf: u64, x: f32, b: u64) -> u64 {
             let (value, sign) = libm::lgammaf_r(x);
             return u64::from(sign as u32) << 32 | u64::from(bits_of_f32(value));
         }
+        44 => bits_of_f32(libm::tgammaf(x)),
         45 => u32::from(x.is_finite() && x.fract() != 0.0),
         48..=51 => bits_of_f32(hornerf(leaf, x)),
         _ => return UNKNOWN,

@@ -23,6 +23,7 @@ extern "C" {
     fn rvt_erfc(x: u64) -> u64;
     fn rvt_lgammaf_r_value(x: u32) -> u32;
     fn rvt_lgammaf_r_sign(x: u32) -> i32;
+    fn rvt_tgammaf(x: u32) -> u32;
     fn rvt_erff(x: u32) -> u32;
     fn rvt_erfcf(x: u32) -> u32;
 }
@@ -46,7 +47,7 @@ fn single(f: fn(f32) -> f32, x: u64) -> Answer {
 }
 
 // The entries take numbers, keep nothing and return for each.
-const FUNCTIONS: [Function; 7] = [
+const FUNCTIONS: [Function; 8] = [
     Function {
         name: "tgamma",
         width: Width::Double,
@@ -85,6 +86,12 @@ const FUNCTIONS: [Function; 7] = [
             let (value, sign) = libm::lgammaf_r(f32::from_bits(x as u32));
             (u64::from(bits_of_f32(value)), sign)
         },
+    },
+    Function {
+        name: "tgammaf",
+        width: Width::Single,
+        port: |x| (u64::from(unsafe { rvt_tgammaf(x as u32) }), 0),
+        rust: |x| single(libm::tgammaf, x),
     },
     Function {
         name: "erff",

@@ -1,7 +1,9 @@
 //! The arguments' patterns: both sides of every cut, every exponent, whole and half numbers, what is
 //! special, and random patterns.
 
-use crate::cuts::{EXP_BOUNDS, GMHALF, HIGH_WORDS, LOG_REDUCTION, LOG_WORDS, SINGLE_CUTS};
+use crate::cuts::{
+    EXP_BOUNDS, GMHALF, HIGH_WORDS, LOG_REDUCTION, LOG_WORDS, SINGLE_CUTS, TGAMMAF_CUTS,
+};
 use crate::leaves::Second;
 use crate::random::Random;
 use std::f64::consts::FRAC_PI_4;
@@ -78,6 +80,14 @@ impl Width {
             cuts.extend([0x7f_fffe, 0x7f_ffff, 0x80_0000, 0x3f80_0000].map(halfway));
         }
         cuts
+    }
+
+    /// Where tgammaf changes, which tests nothing itself.
+    pub fn gamma_cuts(self) -> Vec<u64> {
+        match self {
+            Width::Double => Vec::new(),
+            Width::Single => TGAMMAF_CUTS.map(u64::from).to_vec(),
+        }
     }
 
     /// Zero, infinity, the smallest and greatest numbers of a kind, and NaNs of several payloads.
@@ -204,6 +214,7 @@ impl Patterns {
     pub fn new(width: Width) -> Patterns {
         let cuts = width.cuts();
         let mut centres = cuts.clone();
+        centres.extend(width.gamma_cuts());
         centres.extend(exponents(width));
         centres.extend(whole_and_half(width));
         if width == Width::Double {
@@ -306,7 +317,7 @@ mod tests {
     fn both_neighbours_of_every_cut() {
         for width in [Width::Double, Width::Single] {
             let patterns = Patterns::new(width);
-            for cut in width.cuts() {
+            for cut in width.cuts().into_iter().chain(width.gamma_cuts()) {
                 for n in cut.saturating_sub(2)..=cut + 2 {
                     assert!(patterns.systematic.binary_search(&n).is_ok());
                     let negative = n + width.sign_bit();

@@ -13,8 +13,8 @@ const RANDOM: usize = 40;
 const PAIRS: usize = 400;
 
 /// Requests to every leaf: the specials and random patterns to each, the neighbours of the cuts to
-/// the leaves that look at them, halves of every size to the whole parts, every pair of the specials to
-/// the distances, and numbers that are no leaf's.
+/// the leaves that look at them, those of tgammaf's besides to it, halves of every size to the whole parts,
+/// every pair of the specials to the distances, and numbers that are no leaf's.
 pub fn requests(seed: u64) -> Vec<[u8; 24]> {
     let mut list = Vec::new();
     for leaf in &LEAVES {
@@ -30,7 +30,6 @@ pub fn requests(seed: u64) -> Vec<[u8; 24]> {
         21,
         31,
         32,
-        44,
         46,
         47,
         52,
@@ -64,6 +63,9 @@ fn questions(leaf: &Leaf, random: &mut Random) -> Vec<(u64, u64)> {
     if looks_at_cuts(leaf) {
         arguments.extend(leaf.width.around(&leaf.width.cuts()));
     }
+    if leaf.number == 44 {
+        arguments.extend(leaf.width.around(&leaf.width.gamma_cuts()));
+    }
     if [3, 12, 35, 45].contains(&leaf.number) {
         arguments.extend(leaf.width.halves());
     }
@@ -77,6 +79,6 @@ fn questions(leaf: &Leaf, random: &mut Random) -> Vec<(u64, u64)> {
 fn looks_at_cuts(leaf: &Leaf) -> bool {
     match leaf.width {
         Width::Double => [2, 3, 4, 8, 12, 65, 66, 80, 81, 82, 83, 84].contains(&leaf.number),
-        Width::Single => [34, 35, 37, 38, 39, 41, 42, 43, 45].contains(&leaf.number),
+        Width::Single => [34, 35, 37, 38, 39, 41, 42, 43, 44, 45].contains(&leaf.number),
     }
 }

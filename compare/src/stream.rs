@@ -40,6 +40,7 @@ fn function(name: &str) -> Option<Function> {
             let (value, sign) = libm::lgammaf_r(f32::from_bits(b as u32));
             with_sign(single(value), sign)
         },
+        "tgammaf" => |b| single(libm::tgammaf(f32::from_bits(b as u32))),
         "erff" => |b| single(libm::erff(f32::from_bits(b as u32))),
         "erfcf" => |b| single(libm::erfcf(f32::from_bits(b as u32))),
         _ => return None,

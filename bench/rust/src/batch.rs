@@ -36,6 +36,7 @@ fn answer(kind: u8, body: &[u8]) -> ([u8; 9], usize) {
             bytes[4] = sign_byte(sign);
             value
         }
+        18 => libm::tgammaf(x),
         19 => libm::erff(x),
         _ => libm::erfcf(x),
     };
@@ -48,7 +49,7 @@ fn batch(mut requests: &[u8], answers: &mut [u8]) -> u64 {
     while let Some((&kind, rest)) = requests.split_first() {
         let width = match kind {
             1..=4 => 8,
-            17 | 19 | 20 => 4,
+            17..=20 => 4,
             _ => return 1,
         };
         let body = match rest.get(..width) {

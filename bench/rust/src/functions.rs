@@ -28,6 +28,11 @@ pub extern "C" fn rust_lgammaf_r(x: u32) -> u32 {
 }
 
 #[no_mangle]
+pub extern "C" fn rust_tgammaf(x: u32) -> u32 {
+    bits_of_f32(libm::tgammaf(f32::from_bits(x)))
+}
+
+#[no_mangle]
 pub extern "C" fn rust_erff(x: u32) -> u32 {
     bits_of_f32(libm::erff(f32::from_bits(x)))
 }
