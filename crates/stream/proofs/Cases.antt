@@ -1,4 +1,4 @@
--- The counts of batches on one record of erf and the start of another, by computation: they look at no value. Assumes nothing.
+-- The counts of batches on one record of erf or of tgammaf and the start of another, by computation: they look at no value. Assumes nothing.
 use mathlib.Core.Path.{_≡_, refl}
 use mathlib.Core.List.{List, [], _∷_}
 use Prim.Native.Nat.{ℕ}
@@ -25,6 +25,22 @@ whole = (refl, refl)
 pub no-room : Counts (run table erf6 8) 3 0 0 0
 unfolding runBy stepsBy one rowIn table meanings shapes shapeIn bytesOf digits
 no-room = (refl, refl)
+
+-- tgammaf of 1: a kind of five bytes in and five out
+abbrev tgammaf1 : List ℕ
+tgammaf1 = 18 ∷ 0 ∷ 0 ∷ 128 ∷ 63 ∷ []
+
+pub single : Counts (run table tgammaf1 5) 0 1 5 5
+unfolding runBy stepsBy one rowIn table meanings shapes shapeIn bytesOf digits
+single = (refl, refl)
+
+pub single-no-room : Counts (run table tgammaf1 4) 3 0 0 0
+unfolding runBy stepsBy one rowIn table meanings shapes shapeIn bytesOf digits
+single-no-room = (refl, refl)
+
+pub single-cut : Counts (run table (18 ∷ 0 ∷ 0 ∷ 128 ∷ []) 5) 2 0 0 0
+unfolding runBy stepsBy one rowIn table meanings shapes shapeIn bytesOf digits
+single-cut = (refl, refl)
 
 pub cut-before-full : Counts (run table (4 ∷ 0 ∷ []) 0) 2 0 0 0
 unfolding runBy stepsBy one rowIn table meanings shapes shapeIn bytesOf digits
