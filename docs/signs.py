@@ -2,8 +2,10 @@
 """signs.py > signs.svg: the signs of the gamma function along the axis.
 
 Every value and sign in the picture is an answer of the proved program: tgamma (kind 1) and
-lgamma_r (kind 2) are asked through bin/answers at each point.
+lgamma_r (kind 2) are asked through bin/answers at each point, and in f32 tgammaf (kind 18) and
+lgammaf_r (kind 17) at some.
 """
+import math
 import pathlib
 import struct
 import subprocess
@@ -15,15 +17,15 @@ UNIT = 30  # pixels for 1 across it
 PLUS, MINUS = "#1b6ca8", "#c0392b"
 
 
-def ask(points):
-    """The value of tgamma and the sign that lgamma_r reports, at each point."""
-    requests = b"".join(bytes([kind]) + struct.pack("<d", x) for x in points for kind in (1, 2))
+def ask(points, kinds=(1, 2), letter="d"):
+    """The value of the gamma function and the sign that the log-gamma reports, at each point: f64 (d) or f32 (f)."""
+    requests = b"".join(bytes([kind]) + struct.pack("<" + letter, x) for x in points for kind in kinds)
     said = subprocess.run([ROOT / "bin/answers"], input=requests, stdout=subprocess.PIPE, check=True).stdout
-    assert len(said) == 19 * len(points) + 2 and said[-2:] == b"\xff\x00"
+    shape = struct.Struct(f"<B{letter}B{letter}B")
+    assert len(said) == shape.size * len(points) + 2 and said[-2:] == b"\xff\x00"
     answers = []
-    for at in range(0, 19 * len(points), 19):
-        head, value, _, _, sign = struct.unpack("<BdBdB", said[at : at + 19])
-        assert head == 129
+    for head, value, _, _, sign in shape.iter_unpack(said[:-2]):
+        assert head == 128 + kinds[0]
         answers.append((value, {1: 1, 255: -1}[sign]))
     return answers
 
@@ -63,14 +65,14 @@ def band(y, words, spans):
         yield text(x_of((begin + end) / 2), y + 15, label, size=13)
 
 
-def far(y):
-    """Beyond the picture, where the answers vanish and keep their sign."""
-    points = [-184.5, -185.5, -186.5]
+def far(y, name, points, what, **asked):
+    """Beyond the picture, where the answers vanish or overflow and keep their sign."""
     words = []
-    for x, (value, sign) in zip(points, ask(points)):
-        assert value == 0 and minus(value) == (sign < 0) == (int(-x) % 2 == 0)
-        words.append(f"tgamma({x}) = {'-' if minus(value) else '+'}0")
-    yield text(x_of((LEFT + RIGHT) / 2), y, ", ".join(words) + ": a zero keeps its sign", size=12)
+    for x, (value, sign) in zip(points, ask(points, **asked)):
+        assert value in (0, -math.inf) and minus(value) == (sign < 0) == (int(-x) % 2 == 0)
+        shown = x if x == round(x, 1) else f"-2^{round(math.log2(-x))}"
+        words.append(f"{name}({shown}) = {'-' if minus(value) else '+'}{0 if value == 0 else 'inf'}")
+    yield text(x_of((LEFT + RIGHT) / 2), y, ", ".join(words) + ": " + what, size=12)
 
 
 def picture():
@@ -84,7 +86,7 @@ def picture():
             assert minus(value) == (sign < 0) == (struct.pack(">d", x)[0] >= 128 and int(-x) % 2 == 0)
     bottom = MIDDLE + MOST * UNIT + 10
     width = x_of(RIGHT) + 20
-    yield f'<svg xmlns="http://www.w3.org/2000/svg" width="{width:.0f}" height="{bottom + 130:.0f}" font-family="sans-serif">'
+    yield f'<svg xmlns="http://www.w3.org/2000/svg" width="{width:.0f}" height="{bottom + 152:.0f}" font-family="sans-serif">'
     yield '<rect width="100%" height="100%" fill="white"/>'
     for n in range(int(LEFT), int(RIGHT) + 1):
         dash = ' stroke-dasharray="4 4"' if n <= 0 else ""
@@ -100,7 +102,9 @@ def picture():
     parts = [(m - 0.5, m + 0.5, "#999", f"{int(abs(m))}") for m in middles]
     yield from band(bottom + 38, "whole part", parts)
     yield text(x_of((LEFT + RIGHT) / 2), bottom + 82, "minus: x carries a minus sign, and the whole part of its size is even", size=13)
-    yield from far(bottom + 106)
+    yield from far(bottom + 106, "tgamma", [-184.5, -185.5, -186.5], "a zero keeps its sign")
+    single = {"kinds": (18, 17), "letter": "f"}
+    yield from far(bottom + 128, "tgammaf", [-40.5, -41.5, -(2.0**-130)], "so does what f32 has no room for", **single)
     yield "</svg>"
 
 
