@@ -66,7 +66,7 @@ def band(y, words, spans):
 
 
 def far(y, name, points, what, **asked):
-    """Beyond the picture, where the answers vanish or overflow and keep their sign."""
+    """Where the answers vanish or overflow, and keep their sign."""
     words = []
     for x, (value, sign) in zip(points, ask(points, **asked)):
         assert value in (0, -math.inf) and minus(value) == (sign < 0) == (int(-x) % 2 == 0)

@@ -22,7 +22,7 @@ static int same_f32(float x, uint32_t bits) { return rvt_bits_f32(x) == bits; }
 
 static void kinds(void) {
     check(RVT_TGAMMA == 1 && RVT_LGAMMA_R == 2 && RVT_ERF == 3 && RVT_ERFC == 4, "the kinds of f64");
-    check(RVT_LGAMMAF_R == 17 && RVT_ERFF == 19 && RVT_ERFCF == 20, "the kinds of f32");
+    check(RVT_LGAMMAF_R == 17 && RVT_TGAMMAF == 18 && RVT_ERFF == 19 && RVT_ERFCF == 20, "the kinds of f32");
     check(RVT_DONE == 0 && RVT_UNKNOWN == 1 && RVT_CUT == 2 && RVT_FULL == 3, "the codes");
     check(RVT_NO_DISTANCE == 4, "the code of no distance");
     check(RVT_OTHER_LENGTH == 10 && RVT_REPORT_LENGTH == 10, "the code of another length, by both names");

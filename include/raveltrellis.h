@@ -51,9 +51,9 @@ uint64_t rvt_erf(uint64_t x);
 uint64_t rvt_erfc(uint64_t x);
 
 /* The same from the bits of an f32 to the bits of an f32. A NaN's answer is 0x7FC00000. The sign that
- * rvt_lgammaf_r_sign reports is the one that rvt_lgamma_r_sign reports of the same number. rvt_tgammaf, from
- * version 1.3 on, is rvt_tgamma of the same number, rounded once to f32; where that overflows or vanishes
- * the answer is the infinity or the zero of its sign. */
+ * rvt_lgammaf_r_sign reports is the one that rvt_lgamma_r_sign reports of the same number. rvt_tgammaf
+ * (with kind 18, from version 1.3 on) is rvt_tgamma of the same number, rounded once to f32; what overflows
+ * or vanishes thereby becomes the infinity or the zero of its sign. */
 uint32_t rvt_lgammaf_r_value(uint32_t x);
 int32_t rvt_lgammaf_r_sign(uint32_t x);
 uint32_t rvt_tgammaf(uint32_t x);

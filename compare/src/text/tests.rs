@@ -134,7 +134,7 @@ fn requests_to_text() {
     let first = |code| trip(code, [1, 5, 14], &text[..14]);
     assert_eq!(to_text(&requests, 34), first(3));
     assert_eq!(to_text(&requests[..13], 35), first(2));
-    // an unknown kind before a cut record, and that before the room
+    // a kind without a name before a cut record, and that before the room
     assert_eq!(to_text(&requests[..13], 14), first(2));
     assert_eq!(to_text(&[19, 0, 0, 0x80, 0x3f, 18], 14), first(1));
     assert_eq!(to_text(&[], 0), trip(0, [0; 3], &[]));

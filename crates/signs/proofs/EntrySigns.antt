@@ -3,9 +3,10 @@
 -- of a finite number that is no negative whole number, r is no NaN's pattern, and its sign bit is set exactly where g is -1 (`entries-agree`), which is
 -- exactly where the argument's sign bit is set and the whole part of its size is even (`entries-rule`). At a negative whole number r is the NaN's pattern
 -- and g is 1 (`entries-at-poles`). The f32 entry `rvt_lgammaf_r_sign` answers what `rvt_lgamma_r_sign` answers for the same number (`single-entry-agrees`),
--- so 1 or -1 too (`single-entry-reports`), whatever it is. And `rvt_tgammaf` has the sign that `rvt_lgammaf_r_sign` answers for the same 32 bits
--- (`single-entries-agree`) and `rvt_lgamma_r_sign` for the same number (`wide-entry-agrees`), by the same rule and with the same poles
--- (`single-entries-rule`, `single-entries-at-poles`). Assumes nothing.
+-- so 1 or -1 too (`single-entry-reports`), whatever it is. Where the 32 bits are those of a finite number that is no negative whole number, an answer of
+-- `rvt_tgammaf` is no NaN's pattern, and its sign bit is set exactly where `rvt_lgammaf_r_sign` answers -1 for the same bits (`single-entries-agree`), and
+-- where `rvt_lgamma_r_sign` does for the same number (`wide-entry-agrees`), by the same rule (`single-entries-rule`). At a negative whole number it is the
+-- NaN's pattern (`single-entries-at-poles`). Assumes nothing.
 use mathlib.Core.Path.{_≡_, sym, ap, _∙_}
 use mathlib.Core.Logic.{_⊎_}
 use Prim.Native.Nat.{ℕ, _%_, _^_, _<_}

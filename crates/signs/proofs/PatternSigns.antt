@@ -1,8 +1,9 @@
 -- THE THEOREM on bit patterns, in the words of specs/Promises: for the 64 bits n of a finite f64 that is no negative whole number, tgamma's bits r are no
 -- NaN's (`no-nan-bits`), and their sign bit is set exactly where lgamma_r's sign is -1 (`same-sign-bits`), which is exactly where n's sign bit is set and
 -- the whole part of the size is even (`sign-rule-bits`). The sign is 1 or -1 for any n (`reports-bits`). At a negative whole number r is the NaN's pattern
--- and the sign 1 (`at-poles-bits`). And the same of the 32 bits of an f32, of tgammaf with lgammaf_r and with lgamma_r. What is true of the values of a
--- format is true of its bits, whichever the functions are (`OfBits`). Assumes nothing.
+-- and the sign 1 (`at-poles-bits`). And the same of the 32 bits of an f32, of tgammaf with lgammaf_r (the same names with -f32); its sign is lgamma_r's of
+-- the same number, too (`same-sign-bits-wide`). What is true of a format's values is true of its bits, whichever the functions are: the laws that end in
+-- -of. Assumes nothing.
 use mathlib.Core.Path.{_≡_, sym, ap, _∙_, subst}
 use mathlib.Core.Logic.{_⊎_}
 use Prim.Native.Nat.{ℕ, _+_, _*_, _/_, _%_, _^_, _<_}

@@ -1,6 +1,6 @@
 -- What the sign theorem speaks of, of the bits of a float of format f: a sign bit, an exponent field E and a fraction F. In f64 E has 11 bits and F has
 -- 52, in f32 8 and 23. The kit's words for a format: `hid f` is 2 ^ 52 in f64 and 2 ^ 23 in f32, the weight of E's lowest bit; `ones f` is 2047 and 255,
--- the E of the infinities and the NaNs; `top f` is 2 ^ 63 and 2 ^ 31, the sign bit's weight; 2 ^ -(low f) is the smallest size, with low f 1074 and 149.
+-- the E of the infinities and the NaNs; `top f` is 2 ^ 63 and 2 ^ 31, the sign bit's weight; 2 ^ -(low f) is the smallest size above 0, low f being 1074 and 149.
 -- The size that the bits stand for is (hid f + F) * 2 ^ E / 2 ^ (1 + low f), and F / 2 ^ low f where E is 0.
 use Prim.Native.Nat.{ℕ, suc, _+_, _*_, _/_, _%_, _^_, _<_}
 use mathlib.Core.Path.{_≡_}

@@ -1,5 +1,5 @@
--- tgammaf at points, from tgamma at the same numbers: where the answer is rounded, overflows, is the smallest f32, and vanishes, with both signs.
--- The values are the Rust's. Assumes nothing.
+-- tgammaf at points, from tgamma at the same numbers: where the answer is rounded, has the smallest size of f32, and overflows and vanishes, with both
+-- signs. The values are the Rust's. Assumes nothing.
 use mathlib.Core.Path.{_≡_, ap}
 use lib.Ieee.{ofBits, round}
 use Rattle.words.specs.F32.{bits}
