@@ -1,15 +1,17 @@
--- What specs/Value says of the value of a bit pattern, by the pattern's fields: `Same x s a c` says of x what specs/Pattern says of a sign s and a size
--- a / c, and holds of the value of every finite pattern of either format (`pattern-same`). Assumes nothing.
-use mathlib.Core.Path.{_≡_, sym, ap, _∙_, subst}
+-- What specs/Value says of the value of a bit pattern, by the pattern's fields, in either format. A finite value has finite bits (`finite-back`), and a NaN
+-- a NaN's (`nan-back`). `Same x s a c` says of x what specs/Pattern says of a sign s and a size a / c, and holds of the value of every finite pattern
+-- (`pattern-same`). Assumes nothing.
+use mathlib.Core.Path.{_≡_, refl, sym, ap, _∙_, subst}
+use mathlib.Core.Logic.{_⊎_, inl, inr}
 use Prim.Native.Nat.{ℕ, zero, suc, _+_, _-_, _*_, _/_, _%_, _^_, _<_, _≤_}
 use native.Mathlib.Nat.{add-zero, zero-add, zero-mul, mul-comm, mul-assoc, mul-one, mul-pos, mul-right-comm, eq-of-mul-eq-mul-right, pow-succ'}
-use native.Mathlib.Nat.{div-add-mod', mul-mod-left, mod-lt, div-eq-of-lt, pos-of-div-pos, zero-lt-suc, lt-irrefl, lt-of-lt-of-le}
+use native.Mathlib.Nat.{div-add-mod', mul-mod-left, mod-lt, div-eq-of-lt, pos-of-div-pos, zero-lt-suc, lt-irrefl, lt-of-lt-of-le, eq-or-lt-of-le, eq-zero-or-pos}
 use native.Mathlib.Omega.{arith}
-use mathlib.Core.Bool.{Bool, true}
+use mathlib.Core.Bool.{Bool, true, false, cond}
 use lib.IntN.{ℤ}
-use lib.Dec.{leb}
+use lib.Dec.{leb, eqb}
 use lib.Pow.{pow-pos, pow-mono}
-use lib.Ieee.{Float, Format, nan, inf, fin, binary32, binary64, prec, low, hid, top, up, down, ofFields, ofBits}
+use lib.Ieee.{Float, Format, nan, inf, fin, binary32, binary64, prec, low, hid, ones, top, up, down, ofFields, ofBits}
 use lib.Ieee.Exact.{HasValue}
 use lib.Ieee.Fits.{up-pos, down-pos}
 use lib.Ieee.Nearest.{div-same}
@@ -17,8 +19,66 @@ use Rattle.rounding.proofs.Signed.{value-longer}
 use Rattle.rounding.proofs.BitOrder.{scaled, fields-val, bits-open, hid-pos}
 use Rattle.words.proofs.PatternLaws.{field-rest}
 use Rattle.signs.specs.Value.{Finite, Minus, wholePart, NegativeWhole}
-use Rattle.signs.specs.Pattern.{exponent, fraction, FiniteBits}
+use Rattle.signs.specs.Pattern.{exponent, fraction, FiniteBits, NanBits}
 
+-- ---- which patterns are finite, and which are a NaN's
+fields-of : (f : Format) (n : ℕ) → ofBits f n ≡ ofFields f (leb (top f) n) (exponent f n) (fraction f n)
+fields-of f n = bits-open f n ∙ ap (λ (E : ℕ). ofFields f (leb (top f) n) E (fraction f n)) (field-rest f n)
+
+-- a field of all ones is an infinity's or a NaN's
+full : (f : Format) (s : Bool) (t : ℕ) → ofFields f s (ones f) t ≡ cond (eqb t 0) (inf s) nan
+unfolding ofFields
+full binary32 s t = refl
+full binary64 s t = refl
+
+full-is : (f : Format) (n : ℕ) → exponent f n ≡ ones f → ofBits f n ≡ cond (eqb (fraction f n) 0) (inf (leb (top f) n)) nan
+full-is f n e =
+    let s = leb (top f) n in
+    fields-of f n ∙ ap (λ (E : ℕ). ofFields f s E (fraction f n)) e ∙ full f s (fraction f n)
+
+-- and there is no field above it
+field-range : (f : Format) (n : ℕ) → (exponent f n ≡ ones f) ⊎ (exponent f n < ones f)
+field-range f n = eq-or-lt-of-le (within (mod-lt (n / hid f) (zero-lt-suc (ones f))))
+  where
+    within : {a b : ℕ} → a < suc b → a ≤ b
+    within h = omega arith
+
+pub finite-back : (f : Format) (n : ℕ) → Finite (ofBits f n) → FiniteBits f n
+finite-back f n h =
+    elim (field-range f n) [
+      | inl e ↦ absurd (none (eqb (fraction f n) 0) (leb (top f) n) (subst Finite (full-is f n e) h))
+      | inr l ↦ l
+    ]
+  where
+    none : (b s : Bool) → Finite (cond b (inf s) nan) → ⊥
+    none true s h = h
+    none false s h = h
+
+value-of : (f : Format) (n : ℕ) → exponent f n < ones f
+    → HasValue (ofBits f n) (leb (top f) n) (scaled (exponent f n) (fraction f n) (hid f)) (2 ^ low f)
+value-of f n h =
+    let s = leb (top f) n in
+    subst (λ (z : Float). HasValue z s (scaled (exponent f n) (fraction f n) (hid f)) (2 ^ low f)) (sym (fields-of f n))
+    (fields-val f s (exponent f n) (fraction f n) h)
+
+pub nan-back : (f : Format) (n : ℕ) → ofBits f n ≡ nan → NanBits f n
+nan-back f n h =
+    elim (field-range f n) [
+      | inl e ↦ (
+        e,
+        elim (eq-zero-or-pos (fraction f n)) [
+          | inl z ↦ absurd (apart (leb (top f) n) (sym (full-is f n e ∙ ap (λ (t : ℕ). cond (eqb t 0) (inf (leb (top f) n)) nan) z) ∙ h))
+          | inr p ↦ p
+        ],
+      )
+      | inr l ↦
+          absurd (subst (λ (z : Float). HasValue z (leb (top f) n) (scaled (exponent f n) (fraction f n) (hid f)) (2 ^ low f)) h (value-of f n l))
+    ]
+  where
+    apart : (s : Bool) → inf s ≡ nan → ⊥
+    apart s h = let z : _≡_ {A = ℕ} 0 1 = cc in omega arith
+
+-- ---- what is said of a finite one
 pub record Same (x : Float) (s : Bool) (a c : ℕ) : Type 0 where
   pub finite : Finite x
   pub minus : Minus x → s ≡ true
@@ -113,10 +173,7 @@ pattern-same f n h =
     let E = exponent f n in
     let F = fraction f n in
     subst (Same (ofBits f n) s ((hid f + F) * 2 ^ E)) (mul-comm (2 ^ low f) 2 ∙ sym (pow-succ' 2 (low f)))
-    (by-fields (ofBits f n) s E F (hid f) (2 ^ low f) (mod-lt n (hid-pos f)) (pow-mono (room f))
-    (subst (λ (z : Float). HasValue z s (scaled E F (hid f)) (2 ^ low f))
-    (sym (bits-open f n ∙ ap (λ (E : ℕ). ofFields f s E F) (field-rest f n)))
-    (fields-val f s E F h)))
+    (by-fields (ofBits f n) s E F (hid f) (2 ^ low f) (mod-lt n (hid-pos f)) (pow-mono (room f)) (value-of f n h))
   where
     room : (f : Format) → prec f - 1 ≤ low f
     room binary32 = omega arith

@@ -9,7 +9,7 @@ use Prim.Native.Nat.{ℕ, _*_, _%_, _<_}
 use mathlib.Core.Bool.{false}
 use lib.IntN.{ℤ, pos, negsuc}
 use lib.Dec.{T}
-use lib.Ieee.{Float, Format, nan, inf, top, fits, toBits}
+use lib.Ieee.{Float, Format, nan, inf, top, fits, toBits, ofBits}
 use Rattle.words.specs.Bits.{signS}
 use Rattle.lgamma.specs.Plan.{Answer}
 use Rattle.by_bits.specs.ByBits.{onBits, signOnBits}
@@ -44,6 +44,19 @@ AtPoles f g l = (x : Float) → T (fits f x) → NegativeWhole x
 abbrev pub Reports : Format → (Float → Answer) → Type 0
 Reports f l = (x : Float) → T (fits f x) → (l x .sign ≡ pos 1) ⊎ (l x .sign ≡ negsuc 0)
 
+-- ---- the words of Pattern say of the bits n what those of Value say of their value
+
+pub record Means (f : Format) (n : ℕ) : Type 0 where
+  pub finite : FiniteBits f n → Finite (ofBits f n)
+  pub finite-back : Finite (ofBits f n) → FiniteBits f n
+  pub is-nan : NanBits f n → ofBits f n ≡ nan
+  pub nan-back : ofBits f n ≡ nan → NanBits f n
+  pub minus : FiniteBits f n → signBit f n ≡ 1 → Minus (ofBits f n)
+  pub minus-back : FiniteBits f n → Minus (ofBits f n) → signBit f n ≡ 1
+  pub part : FiniteBits f n → wholePartBits f n ≡ wholePart (ofBits f n)
+  pub whole : FiniteBits f n → NegativeWholeBits f n → NegativeWhole (ofBits f n)
+  pub whole-back : FiniteBits f n → NegativeWhole (ofBits f n) → NegativeWholeBits f n
+
 -- ---- of the bits n of an argument, with the bits r of g's answer and the sign s that l reports
 
 -- 1. r is no NaN's, where n is finite and no negative whole number
@@ -65,7 +78,7 @@ SignRuleBits f g = (n r : ℕ) → n < 2 * top f → FiniteBits f n → (Negativ
     → (signBit f r ≡ 1 → (signBit f n ≡ 1) × (wholePartBits f n % 2 ≡ 0))
     × ((signBit f n ≡ 1) × (wholePartBits f n % 2 ≡ 0) → signBit f r ≡ 1)
 
--- at a negative whole number r is the NaN's pattern, and s is 1
+-- at a negative whole number r is the NaN's pattern, 0x7FF8000000000000 or in f32 0x7FC00000, and s is 1
 abbrev pub AtPolesBits : Format → (Float → Float) → (Float → Answer) → Type 0
 AtPolesBits f g l = (n r : ℕ) (s : ℤ) → FiniteBits f n → NegativeWholeBits f n
     → r ≡ onBits f g n → s ≡ signOnBits f l n
