@@ -7,13 +7,14 @@ use Prim.Native.Nat.{ℕ, zero, suc, _+_, _-_, _*_, _/_, _%_, _^_, _<_, _≤_}
 use native.Mathlib.Nat.{add-zero, zero-add, zero-mul, mul-comm, mul-assoc, mul-one, mul-pos, mul-right-comm, eq-of-mul-eq-mul-right, pow-succ'}
 use native.Mathlib.Nat.{div-add-mod', mul-mod-left, mod-lt, div-eq-of-lt, pos-of-div-pos, zero-lt-suc, lt-irrefl, lt-of-lt-of-le, eq-or-lt-of-le, eq-zero-or-pos}
 use native.Mathlib.Omega.{arith}
-use mathlib.Core.Bool.{Bool, true, false, cond}
+use mathlib.Core.Bool.{Bool, true, false, not, _&&_, cond}
 use lib.IntN.{ℤ}
-use lib.Dec.{leb, eqb}
+use lib.Dec.{T, T-not, leb, eqb, eqb→eq}
 use lib.Pow.{pow-pos, pow-mono}
-use lib.Ieee.{Float, Format, nan, inf, fin, binary32, binary64, prec, low, hid, ones, top, up, down, ofFields, ofBits}
+use lib.Ieee.{Float, Format, nan, inf, fin, binary32, binary64, prec, low, hid, ones, top, up, down, isNan, ofFields, ofBits, nanBits}
+use lib.Ieee.Bits.{nanBits-is}
 use lib.Ieee.Exact.{HasValue}
-use lib.Ieee.Fits.{up-pos, down-pos}
+use lib.Ieee.Fits.{up-pos, down-pos, and-l, and-r, eq→eqb}
 use lib.Ieee.Nearest.{div-same}
 use Rattle.rounding.proofs.Signed.{value-longer}
 use Rattle.rounding.proofs.BitOrder.{scaled, fields-val, bits-open, hid-pos}
@@ -54,29 +55,23 @@ finite-back f n h =
     none true s h = h
     none false s h = h
 
+-- by the kit's law on which patterns are a NaN's
+pub nan-back : (f : Format) (n : ℕ) → ofBits f n ≡ nan → NanBits f n
+unfolding nanBits isNan
+nan-back f n h =
+    let E = eqb (n % top f / hid f) (ones f) in
+    let D = not (eqb (fraction f n) 0) in
+    let t : T (E && D) = subst T (sym (nanBits-is f n ∙ ap isNan h)) tt in (
+      sym (field-rest f n) ∙ eqb→eq (n % top f / hid f) (ones f) (and-l E D t),
+      elim (eq-zero-or-pos (fraction f n)) [ inl z ↦ absurd (T-not (eqb (fraction f n) 0) (and-r E D t) (eq→eqb z)) | inr p ↦ p ],
+    )
+
 value-of : (f : Format) (n : ℕ) → exponent f n < ones f
     → HasValue (ofBits f n) (leb (top f) n) (scaled (exponent f n) (fraction f n) (hid f)) (2 ^ low f)
 value-of f n h =
     let s = leb (top f) n in
     subst (λ (z : Float). HasValue z s (scaled (exponent f n) (fraction f n) (hid f)) (2 ^ low f)) (sym (fields-of f n))
     (fields-val f s (exponent f n) (fraction f n) h)
-
-pub nan-back : (f : Format) (n : ℕ) → ofBits f n ≡ nan → NanBits f n
-nan-back f n h =
-    elim (field-range f n) [
-      | inl e ↦ (
-        e,
-        elim (eq-zero-or-pos (fraction f n)) [
-          | inl z ↦ absurd (apart (leb (top f) n) (sym (full-is f n e ∙ ap (λ (t : ℕ). cond (eqb t 0) (inf (leb (top f) n)) nan) z) ∙ h))
-          | inr p ↦ p
-        ],
-      )
-      | inr l ↦
-          absurd (subst (λ (z : Float). HasValue z (leb (top f) n) (scaled (exponent f n) (fraction f n) (hid f)) (2 ^ low f)) h (value-of f n l))
-    ]
-  where
-    apart : (s : Bool) → inf s ≡ nan → ⊥
-    apart s h = let z : _≡_ {A = ℕ} 0 1 = cc in omega arith
 
 -- ---- what is said of a finite one
 pub record Same (x : Float) (s : Bool) (a c : ℕ) : Type 0 where
