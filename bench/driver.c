@@ -1,6 +1,6 @@
 /*
- * driver.c: the port beside crate libm, glibc and musl on the same arguments, and its feed beside its batch on the same
- * records, for bench/run.
+ * driver.c: the port beside crate libm, glibc and musl on the same arguments, its feed beside its batch on the same records,
+ * and its records of erf, of erfc and of both beside each other on the same arguments, for bench/run.
  *
  *     driver names                        what can be timed: lines WHAT LIBRARY LIBRARY.., those that are compared
  *     driver same SEED                    a pass of each, whose answers are compared
@@ -8,11 +8,13 @@
  *     driver passes WHAT LIBRARY COUNT    so many passes of one library, for a counter of instructions
  *
  * A pass is 4,000 arguments spread evenly over the function's regions, of both signs, shuffled. The libraries take turns,
- * and the best of REPEATS passes counts. After each turn every answer of the port is held to the Rust's, and of the feed to
- * the batch's: where one differs, the function and the argument are said and the status is 1. musl's functions are those of
- * its libc.a with the prefix musl_, where HAVE_MUSL is set; the entries of an earlier port have the prefix earlier_, where
- * HAVE_EARLIER is set, and its answers are held to the port's. The feed is timed where HAVE_FEED is set, and tgammaf where
- * WITHOUT_tgammaf is not. kinds.h is made from kinds.txt, and a function finds its kind there by its name.
+ * and the best of REPEATS passes counts. After each turn every answer of the port is held to the Rust's, of the feed to
+ * the batch's, and of both error functions to those of each: where one differs, the function and the argument are said and
+ * the status is 1. musl's functions are those of its libc.a with the prefix musl_, where HAVE_MUSL is set; the entries of an
+ * earlier port have the prefix earlier_, where HAVE_EARLIER is set, and its answers are held to the port's. The feed is timed
+ * where HAVE_FEED is set, records of both error functions where HAVE_PAIR is; tgammaf and erf_erfc where WITHOUT_tgammaf and
+ * WITHOUT_erf_erfc are not. kinds.h is made from
+ * kinds.txt, and a function finds its kind there by its name.
  */
 #define _GNU_SOURCE
 #include "raveltrellis.h"
@@ -24,132 +26,9 @@
 #include <time.h>
 #include <unistd.h>
 
-enum { COUNT = 4000, REPEATS = 300, PORT = 0, RUST = 1, EARLIER = 2, LIBRARIES = 5, LONGEST = 32, SHOWN = 20 };
+enum { COUNT = 4000, REPEATS = 300, PORT = 0, RUST = 1, EARLIER = 2, LIBRARIES = 5, LONGEST = 32, SHOWN = 20, ALL = -1 };
 
-uint64_t rust_tgamma(uint64_t x), rust_lgamma_r(uint64_t x), rust_erf(uint64_t x), rust_erfc(uint64_t x);
-uint32_t rust_lgammaf_r(uint32_t x), rust_tgammaf(uint32_t x), rust_erff(uint32_t x), rust_erfcf(uint32_t x);
-void rust_erf_records(const uint8_t *requests, size_t count, uint8_t *answers);
-uint64_t rust_batch_code(const uint8_t *, size_t, uint8_t *, size_t);
-
-static double f64_of(uint64_t x) { double d; memcpy(&d, &x, 8); return d; }
-static uint64_t bits_of(double d) { uint64_t x; memcpy(&x, &d, 8); return x; }
-static float f32_of(uint32_t x) { float d; memcpy(&d, &x, 4); return d; }
-static uint32_t bits_of_f32(float d) { uint32_t x; memcpy(&x, &d, 4); return x; }
-
-/* A function of a C library by bits. */
-#define BY_BITS(name, call) \
-    static uint64_t name(uint64_t x) { int sign; (void)sign; return bits_of(call); }
-#define BY_BITS_F32(name, call) \
-    static uint32_t name(uint32_t x) { int sign; (void)sign; return bits_of_f32(call); }
-
-BY_BITS(glibc_tgamma, tgamma(f64_of(x)))
-BY_BITS(glibc_lgamma_r, lgamma_r(f64_of(x), &sign))
-BY_BITS(glibc_erf, erf(f64_of(x)))
-BY_BITS(glibc_erfc, erfc(f64_of(x)))
-BY_BITS_F32(glibc_lgammaf_r, lgammaf_r(f32_of(x), &sign))
-BY_BITS_F32(glibc_tgammaf, tgammaf(f32_of(x)))
-BY_BITS_F32(glibc_erff, erff(f32_of(x)))
-BY_BITS_F32(glibc_erfcf, erfcf(f32_of(x)))
-
-#ifdef HAVE_MUSL
-double musl_tgamma(double), musl_lgamma_r(double, int *), musl_erf(double), musl_erfc(double);
-float musl_lgammaf_r(float, int *), musl_tgammaf(float), musl_erff(float), musl_erfcf(float);
-BY_BITS(by_musl_tgamma, musl_tgamma(f64_of(x)))
-BY_BITS(by_musl_lgamma_r, musl_lgamma_r(f64_of(x), &sign))
-BY_BITS(by_musl_erf, musl_erf(f64_of(x)))
-BY_BITS(by_musl_erfc, musl_erfc(f64_of(x)))
-BY_BITS_F32(by_musl_lgammaf_r, musl_lgammaf_r(f32_of(x), &sign))
-BY_BITS_F32(by_musl_tgammaf, musl_tgammaf(f32_of(x)))
-BY_BITS_F32(by_musl_erff, musl_erff(f32_of(x)))
-BY_BITS_F32(by_musl_erfcf, musl_erfcf(f32_of(x)))
-#define MUSL(name) by_musl_##name
-#else
-#define MUSL(name) NULL
-#endif
-
-#ifdef HAVE_EARLIER
-uint64_t earlier_rvt_tgamma(uint64_t), earlier_rvt_lgamma_r_value(uint64_t), earlier_rvt_erf(uint64_t), earlier_rvt_erfc(uint64_t);
-uint32_t earlier_rvt_lgammaf_r_value(uint32_t), earlier_rvt_tgammaf(uint32_t), earlier_rvt_erff(uint32_t), earlier_rvt_erfcf(uint32_t);
-uint64_t earlier_rvt_batch_code(const uint8_t *, size_t, uint8_t *, size_t);
-#define EARLIER_OF(entry) earlier_##entry
-enum { SIDES = 3 };
-#else
-#define EARLIER_OF(entry) NULL
-#define earlier_rvt_batch_code rvt_batch_code
-enum { SIDES = 2 };
-#endif
-
-static const char *const LIBRARY[LIBRARIES] = {"port", "Rust", "earlier", "glibc", "musl"};
-
-/* The kinds of kinds.txt. */
-struct kind {
-    int number;
-    const char *name;
-    size_t body, values, tail;
-};
-
-static const struct kind KINDS[] = {
-#define KIND(number, name, body, values, tail) {number, #name, body, values, tail},
-#include "kinds.h"
-#undef KIND
-};
-
-enum { KIND_COUNT = sizeof KINDS / sizeof KINDS[0] };
-
-static const struct kind *kind_named(const char *name) {
-    for (size_t i = 0; i < KIND_COUNT; i++)
-        if (strcmp(KINDS[i].name, name) == 0) return &KINDS[i];
-    fprintf(stderr, "driver: kinds.txt has no kind %s\n", name);
-    exit(2);
-}
-
-static const struct kind *kind_numbered(int number) {
-    for (size_t i = 0; i < KIND_COUNT; i++)
-        if (KINDS[i].number == number) return &KINDS[i];
-    return NULL;
-}
-
-/* The regions of a function by the sizes where they begin; the last one ends the last region. */
-struct regions {
-    int count;
-    double at[10];
-};
-
-static const struct regions GAMMA = {8, {0x1p-60, 0x1p-54, 0.5, 1, 5.5, 8, 23, 171.7, 184, 200}};
-static const struct regions LGAMMA = {9, {0x1p-80, 0x1p-70, 0.23, 0.73, 1.23, 1.73, 2, 8, 0x1p58, 0x1p70}};
-static const struct regions ERF = {7, {0x1p-60, 0x1p-28, 0.25, 0.84375, 1.25, 2.857, 6, 10}};
-static const struct regions ERFC = {7, {0x1p-60, 0x1p-56, 0.25, 0.84375, 1.25, 2.857, 28, 40}};
-static const struct regions GAMMAF = {9, {0x1p-60, 0x1p-54, 0.5, 1, 5.5, 8, 23, 35.04, 184, 200}};
-static const struct regions LGAMMAF = {9, {0x1p-30, 0x1p-21, 0.23, 0.73, 1.23, 1.73, 2, 8, 0x1p58, 0x1p70}};
-
-/* A function of each library: of f64, or of f32. A log-gamma is timed by its value. */
-struct function {
-    const char *name;
-    const struct regions *regions;
-    uint64_t (*f64[LIBRARIES])(uint64_t);
-    uint32_t (*f32[LIBRARIES])(uint32_t);
-};
-
-static const struct function FUNCTIONS[] = {
-    {"tgamma", &GAMMA, {rvt_tgamma, rust_tgamma, EARLIER_OF(rvt_tgamma), glibc_tgamma, MUSL(tgamma)}, {NULL}},
-    {"lgamma_r", &LGAMMA, {rvt_lgamma_r_value, rust_lgamma_r, EARLIER_OF(rvt_lgamma_r_value), glibc_lgamma_r, MUSL(lgamma_r)}, {NULL}},
-    {"erf", &ERF, {rvt_erf, rust_erf, EARLIER_OF(rvt_erf), glibc_erf, MUSL(erf)}, {NULL}},
-    {"erfc", &ERFC, {rvt_erfc, rust_erfc, EARLIER_OF(rvt_erfc), glibc_erfc, MUSL(erfc)}, {NULL}},
-    {"lgammaf_r", &LGAMMAF, {NULL}, {rvt_lgammaf_r_value, rust_lgammaf_r, EARLIER_OF(rvt_lgammaf_r_value), glibc_lgammaf_r, MUSL(lgammaf_r)}},
-#ifndef WITHOUT_tgammaf
-    {"tgammaf", &GAMMAF, {NULL}, {rvt_tgammaf, rust_tgammaf, EARLIER_OF(rvt_tgammaf), glibc_tgammaf, MUSL(tgammaf)}},
-#endif
-    {"erff", &ERF, {NULL}, {rvt_erff, rust_erff, EARLIER_OF(rvt_erff), glibc_erff, MUSL(erff)}},
-    {"erfcf", &ERFC, {NULL}, {rvt_erfcf, rust_erfcf, EARLIER_OF(rvt_erfcf), glibc_erfcf, MUSL(erfcf)}},
-};
-
-enum { FUNCTION_COUNT = sizeof FUNCTIONS / sizeof FUNCTIONS[0] };
-
-static const struct function *function_named(const char *name) {
-    for (size_t i = 0; i < FUNCTION_COUNT; i++)
-        if (strcmp(FUNCTIONS[i].name, name) == 0) return &FUNCTIONS[i];
-    return NULL;
-}
+#include "functions.h"
 
 /* ---- arguments */
 
@@ -162,13 +41,13 @@ static uint64_t next(void) { /* splitmix64 */
     return z ^ z >> 31;
 }
 
-/* The bits of an argument: a region, then a pattern within it, then a sign. */
-static uint64_t argument(const struct function *f) {
-    int region = (int)(next() % (uint64_t)f->regions->count);
+/* The bits of an argument: a region, where it is not one alone, then a pattern within it, then a sign. */
+static uint64_t argument(const struct function *f, int alone) {
+    int region = alone < 0 ? (int)(next() % (uint64_t)f->regions->count) : alone;
     uint64_t from = bits_of(f->regions->at[region]), upto = bits_of(f->regions->at[region + 1]);
     double x = f64_of(from + next() % (upto - from));
     if (next() % 2) x = -x;
-    return f->f64[PORT] ? bits_of(x) : bits_of_f32((float)x);
+    return f->f32[PORT] ? bits_of_f32((float)x) : bits_of(x);
 }
 
 /* What one pass works on: arguments, or the requests of COUNT records. */
@@ -177,7 +56,14 @@ static uint8_t requests[LONGEST * COUNT];
 static size_t requests_length;
 
 static void make_arguments(const struct function *f) {
-    for (int i = 0; i < COUNT; i++) arguments[i] = argument(f);
+    for (int i = 0; i < COUNT; i++) arguments[i] = argument(f, ALL);
+}
+
+/* A record behind the requests. */
+static void ask(const struct function *f, uint64_t bits) {
+    const struct kind *k = kind_named(f->name);
+    requests[requests_length++] = (uint8_t)k->number;
+    for (size_t j = 0; j < k->body; j++) requests[requests_length++] = (uint8_t)(bits >> 8 * j);
 }
 
 /* Requests of erf, or of every function by turns. */
@@ -186,23 +72,23 @@ static void make_requests(int of_erf) {
     requests_length = 0;
     for (int i = 0; i < COUNT; i++) {
         const struct function *f = only ? only : &FUNCTIONS[next() % FUNCTION_COUNT];
-        const struct kind *k = kind_named(f->name);
-        uint64_t bits = argument(f);
-        requests[requests_length++] = (uint8_t)k->number;
-        for (size_t j = 0; j < k->body; j++) requests[requests_length++] = (uint8_t)(bits >> 8 * j);
+        ask(f, argument(f, ALL));
     }
 }
 
 /* ---- a pass */
 
-static uint64_t values[LIBRARIES][COUNT];
+static uint64_t values[LIBRARIES][2 * COUNT];
 static uint8_t answers[SIDES][LONGEST * COUNT];
 
 static void functions_pass(const struct function *f, int library) {
     uint64_t (*wide)(uint64_t) = f->f64[library], *to = values[library];
     uint32_t (*narrow)(uint32_t) = f->f32[library];
+    void (*pair)(uint64_t, uint64_t *) = f->pair[library];
     if (wide)
         for (int i = 0; i < COUNT; i++) to[i] = wide(arguments[i]);
+    else if (pair)
+        for (int i = 0; i < COUNT; i++) pair(arguments[i], to + 2 * i);
     else
         for (int i = 0; i < COUNT; i++) to[i] = narrow((uint32_t)arguments[i]);
 }
@@ -283,8 +169,9 @@ static void same_values(const struct function *f) {
     const uint64_t *ours = values[PORT];
     for (int l = RUST; l < SIDES; l++) {
         if (memcmp(ours, values[l], sizeof values[0]) == 0) continue;
-        for (int i = 0; i < COUNT; i++)
-            if (ours[i] != values[l][i]) differs("function", f->name, arguments[i], LIBRARY[PORT], ours[i], LIBRARY[l], values[l][i]);
+        for (int i = 0; i < 2 * COUNT; i++)
+            if (ours[i] != values[l][i])
+                differs("function", f->name, arguments[f->pair[PORT] ? i / 2 : i], LIBRARY[PORT], ours[i], LIBRARY[l], values[l][i]);
         exit(1);
     }
 }
@@ -335,7 +222,7 @@ static void time_function(const struct function *f) {
     make_arguments(f);
     for (int n = 0; n < REPEATS; n++) {
         for (int l = 0; l < LIBRARIES; l++) {
-            if (!f->f64[l] && !f->f32[l]) continue;
+            if (!f->f64[l] && !f->f32[l] && !f->pair[l]) continue;
             memset(values[l], 0, sizeof values[l]);
             double start = now();
             functions_pass(f, l);
@@ -361,6 +248,8 @@ static void time_records(const struct pair *p) {
     print_times(p->name, sides(p), best);
 }
 
+#include "errors.h"
+
 /* ---- the commands */
 
 static void print_names(const char *what, const char *const *library, int count) {
@@ -372,6 +261,9 @@ static void print_names(const char *what, const char *const *library, int count)
 static int names(void) {
     for (size_t i = 0; i < FUNCTION_COUNT; i++) print_names(FUNCTIONS[i].name, LIBRARY, SIDES);
     for (const struct pair *p = PAIRS; p < PAIRS + PAIR_COUNT; p++) print_names(p->name, sides(p), side_count(p));
+#ifdef HAVE_PAIR
+    for (const struct sizes *s = SIZES; s < SIZES + SIZE_COUNT; s++) print_names(s->name, ERRORS, ERROR_COUNT);
+#endif
     for (size_t i = 0; i < KIND_COUNT; i++)
         if (!function_named(KINDS[i].name)) fprintf(stderr, "bench: kind %d, %s, is not timed\n", KINDS[i].number, KINDS[i].name);
     return 0;
@@ -391,6 +283,12 @@ static int times(uint64_t seed) {
         progress(p->name);
         time_records(p);
     }
+#ifdef HAVE_PAIR
+    for (const struct sizes *s = SIZES; s < SIZES + SIZE_COUNT; s++) {
+        progress(s->name);
+        time_errors(s);
+    }
+#endif
     return 0;
 }
 
@@ -407,10 +305,21 @@ static int same(uint64_t seed) {
         for (int side = 0; side < side_count(p); side++) records_pass(p, side);
         same_answers(p);
     }
+#ifdef HAVE_PAIR
+    for (const struct sizes *s = SIZES; s < SIZES + SIZE_COUNT; s++) {
+        make_errors(s);
+        for (int side = 0; side < ERROR_COUNT; side++) errors_pass(s, side);
+        same_errors(s);
+    }
+#endif
     return 0;
 }
 
 static int passes(const char *what, const char *library, long count) {
+#ifdef HAVE_PAIR
+    for (const struct sizes *s = SIZES; s < SIZES + SIZE_COUNT; s++)
+        if (strcmp(what, s->name) == 0) return error_passes(s, library, count);
+#endif
     const struct function *f = function_named(what);
     const struct pair *p = f ? NULL : pair_named(what);
     const char *const *library_of = p ? sides(p) : LIBRARY;

@@ -10,7 +10,7 @@
  * Every entry answers every bit pattern and every content of the buffers, and returns. It asks of its
  * caller what C does: a pointer with the length of what it points to, or any pointer with length 0,
  * also a null one; the buffers of a call do not overlap; nobody else writes to the requests or the
- * piece, or reads or writes the answers, the report or the feed, before the call returns; and the
+ * piece, or reads or writes the answers, the report, the feed or the pair, before the call returns; and the
  * processor's float control is as a program finds it (rounding to nearest, subnormal numbers kept).
  *
  * The entries are numbers and bytes, and they are what is proved. The functions that are written out
@@ -26,7 +26,7 @@
 /* The version of this interface. What is added raises the second number, what changes or goes the
  * first. */
 #define RVT_VERSION_MAJOR 1
-#define RVT_VERSION_MINOR 3
+#define RVT_VERSION_MINOR 4
 #define RVT_VERSION_PATCH 0
 #define RVT_VERSION (RVT_VERSION_MAJOR * 10000 + RVT_VERSION_MINOR * 100 + RVT_VERSION_PATCH)
 
@@ -50,6 +50,11 @@ int32_t rvt_lgamma_r_sign(uint64_t x);
 uint64_t rvt_erf(uint64_t x);
 uint64_t rvt_erfc(uint64_t x);
 
+/* Both of one number (with kind 7, from version 1.4 on), for little more than the complement alone: their
+ * bits, erf's and then erfc's, as the RVT_PAIR_BYTES bytes of the pair, eight each, the lowest byte first. The
+ * result is RVT_DONE, or RVT_OTHER_LENGTH where the pair has another length. */
+uint64_t rvt_erf_erfc(uint64_t x, uint8_t *pair, size_t pair_length);
+
 /* The same from the bits of an f32 to the bits of an f32. A NaN's answer is 0x7FC00000. The sign that
  * rvt_lgammaf_r_sign reports is the one that rvt_lgamma_r_sign reports of the same number. rvt_tgammaf
  * (with kind 18, from version 1.3 on) is rvt_tgamma of the same number, rounded once to f32; what overflows
@@ -65,14 +70,15 @@ uint32_t rvt_erfcf(uint32_t x);
 /*
  * A batch answers whole records from the front of the requests, one after another, until one of the
  * codes says why it stopped. A request is a byte of kind and the argument's bits, the lowest byte
- * first; an answer is the kind plus 128, the value's bits and, for kinds 2 and 17, a sign byte, 1 for
- * plus and 255 for minus.
+ * first; an answer is the kind plus 128, the value's bits, for kind 7 those of erf and then of erfc,
+ * and, for kinds 2 and 17, a sign byte, 1 for plus and 255 for minus.
  *
  *     kind  function   request bytes  answer bytes
  *     1     tgamma     9              9
  *     2     lgamma_r   9              10
  *     3     erf        9              9
  *     4     erfc       9              9
+ *     7     erf_erfc   9              17
  *     17    lgammaf_r  5              6
  *     18    tgammaf    5              5
  *     19    erff       5              5
@@ -83,18 +89,21 @@ enum rvt_kind {
     RVT_LGAMMA_R = 2,
     RVT_ERF = 3,
     RVT_ERFC = 4,
+    RVT_ERF_ERFC = 7,
     RVT_LGAMMAF_R = 17,
     RVT_TGAMMAF = 18,
     RVT_ERFF = 19,
     RVT_ERFCF = 20
 };
 
-/* The bytes of the longest request, of the longest answer, of a report and of a feed. A buffer with room
- * for the longest answer to every request is never too short. */
+/* The bytes of the longest request, of the longest answer, of a report, of a feed and of a pair. A buffer
+ * with room for the longest answer to every request is never too short. Before version 1.4 the longest answer
+ * had 10 bytes, and to requests of the other kinds none is longer. */
 #define RVT_LONGEST_REQUEST 9
-#define RVT_LONGEST_ANSWER 10
+#define RVT_LONGEST_ANSWER 17
 #define RVT_REPORT_BYTES 24
 #define RVT_FEED_BYTES 32
+#define RVT_PAIR_BYTES 16
 
 /* The codes that a call ends with. */
 enum rvt_stop {
@@ -103,7 +112,7 @@ enum rvt_stop {
     RVT_CUT = 2,          /* the kind is known, and its body is incomplete */
     RVT_FULL = 3,         /* the record is whole, and its answer is longer than the room left */
     RVT_NO_DISTANCE = 4,  /* a distance was asked of a NaN */
-    RVT_OTHER_LENGTH = 10 /* the report, or the feed, has another length than its bytes: nothing is touched */
+    RVT_OTHER_LENGTH = 10 /* the report, the feed or the pair has another length than its bytes: nothing is touched */
 };
 
 /* The name that version 1.0 had for the last of them. */
@@ -266,6 +275,20 @@ static inline double rvt_erfc_f64(double x) { return rvt_of_bits_f64(rvt_erfc(rv
 static inline float rvt_tgammaf_f32(float x) { return rvt_of_bits_f32(rvt_tgammaf(rvt_bits_f32(x))); }
 static inline float rvt_erff_f32(float x) { return rvt_of_bits_f32(rvt_erff(rvt_bits_f32(x))); }
 static inline float rvt_erfcf_f32(float x) { return rvt_of_bits_f32(rvt_erfcf(rvt_bits_f32(x))); }
+
+/* erf and erfc of one number, by one call. */
+struct rvt_pair {
+    double erf, erfc;
+};
+
+static inline struct rvt_pair rvt_erf_erfc_f64(double x) {
+    uint8_t bytes[RVT_PAIR_BYTES];
+    struct rvt_pair both;
+    rvt_erf_erfc(rvt_bits_f64(x), bytes, sizeof bytes);
+    both.erf = rvt_of_bits_f64(rvt_number(bytes));
+    both.erfc = rvt_of_bits_f64(rvt_number(bytes + 8));
+    return both;
+}
 
 /* Log-gamma and, where `sign` is not null, the gamma function's sign, 1 or -1, which costs a second
  * call. */

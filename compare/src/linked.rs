@@ -21,6 +21,7 @@ extern "C" {
     fn rvt_lgamma_r_sign(x: u64) -> i32;
     fn rvt_erf(x: u64) -> u64;
     fn rvt_erfc(x: u64) -> u64;
+    fn rvt_erf_erfc(x: u64, pair: *mut u8, pair_length: usize) -> u64;
     fn rvt_lgammaf_r_value(x: u32) -> u32;
     fn rvt_lgammaf_r_sign(x: u32) -> i32;
     fn rvt_tgammaf(x: u32) -> u32;
@@ -46,8 +47,16 @@ fn single(f: fn(f32) -> f32, x: u64) -> Answer {
     (u64::from(bits_of_f32(f(f32::from_bits(x as u32)))), 0)
 }
 
-// The entries take numbers, keep nothing and return for each.
-const FUNCTIONS: [Function; 8] = [
+/// erf and erfc by one call, whose code is 0.
+fn pair(x: u64) -> [u64; 2] {
+    let mut bytes = [0xa5; 16];
+    assert_eq!(unsafe { rvt_erf_erfc(x, bytes.as_mut_ptr(), 16) }, 0);
+    let word = |at: usize| u64::from_le_bytes(bytes[at..at + 8].try_into().unwrap());
+    [word(0), word(8)]
+}
+
+// The entries take numbers, and one a buffer of its length. They keep nothing, and return for each.
+const FUNCTIONS: [Function; 10] = [
     Function {
         name: "tgamma",
         width: Width::Double,
@@ -73,6 +82,18 @@ const FUNCTIONS: [Function; 8] = [
         name: "erfc",
         width: Width::Double,
         port: |x| (unsafe { rvt_erfc(x) }, 0),
+        rust: |x| double(libm::erfc, x),
+    },
+    Function {
+        name: "erf_erfc",
+        width: Width::Double,
+        port: |x| (pair(x)[0], 0),
+        rust: |x| double(libm::erf, x),
+    },
+    Function {
+        name: "erf_erfc, erfc",
+        width: Width::Double,
+        port: |x| (pair(x)[1], 0),
         rust: |x| double(libm::erfc, x),
     },
     Function {

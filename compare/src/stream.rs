@@ -36,6 +36,10 @@ fn function(name: &str) -> Option<Function> {
         },
         "erf" => |b| double(libm::erf(f64::from_bits(b))),
         "erfc" => |b| double(libm::erfc(f64::from_bits(b))),
+        "erf_erfc" => |b| {
+            let x = f64::from_bits(b);
+            [double(libm::erf(x)), double(libm::erfc(x))].concat()
+        },
         "lgammaf_r" => |b| {
             let (value, sign) = libm::lgammaf_r(f32::from_bits(b as u32));
             with_sign(single(value), sign)

@@ -11,9 +11,9 @@ fn sign_byte(sign: i32) -> u8 {
     }
 }
 
-/// The value's bytes and, where the kind has one, the sign byte, in the first 9 places; and how many.
-fn answer(kind: u8, body: &[u8]) -> ([u8; 9], usize) {
-    let mut bytes = [0; 9];
+/// The bytes of the values and, where the kind has one, the sign byte, in the first places; and how many.
+fn answer(kind: u8, body: &[u8]) -> ([u8; 16], usize) {
+    let mut bytes = [0; 16];
     if let Ok(body) = body.try_into() {
         let x = f64::from_bits(u64::from_le_bytes(body));
         let value = match kind {
@@ -24,10 +24,19 @@ fn answer(kind: u8, body: &[u8]) -> ([u8; 9], usize) {
                 value
             }
             3 => libm::erf(x),
-            _ => libm::erfc(x),
+            4 => libm::erfc(x),
+            _ => {
+                bytes[8..].copy_from_slice(&bits(libm::erfc(x)).to_le_bytes());
+                libm::erf(x)
+            }
         };
         bytes[..8].copy_from_slice(&bits(value).to_le_bytes());
-        return (bytes, if kind == 2 { 9 } else { 8 });
+        let length = match kind {
+            2 => 9,
+            7 => 16,
+            _ => 8,
+        };
+        return (bytes, length);
     }
     let x = f32::from_bits(u32::from_le_bytes(body.try_into().unwrap_or([0; 4])));
     let value = match kind {
@@ -48,7 +57,7 @@ fn batch(mut requests: &[u8], answers: &mut [u8]) -> u64 {
     let mut written = 0;
     while let Some((&kind, rest)) = requests.split_first() {
         let width = match kind {
-            1..=4 => 8,
+            1..=4 | 7 => 8,
             17..=20 => 4,
             _ => return 1,
         };

@@ -22,6 +22,17 @@ pub extern "C" fn rust_erfc(x: u64) -> u64 {
     bits(libm::erfc(f64::from_bits(x)))
 }
 
+/// erf and erfc of the same number, which the crate has no one function for.
+///
+/// # Safety
+/// `pair` has room for two words.
+#[no_mangle]
+pub unsafe extern "C" fn rust_erf_erfc(x: u64, pair: *mut u64) {
+    let x = f64::from_bits(x);
+    pair.write(bits(libm::erf(x)));
+    pair.add(1).write(bits(libm::erfc(x)));
+}
+
 #[no_mangle]
 pub extern "C" fn rust_lgammaf_r(x: u32) -> u32 {
     bits_of_f32(libm::lgammaf_r(f32::from_bits(x)).0)

@@ -85,6 +85,28 @@ pub fn erfc_bits(x: u64) -> u64
     bits_of(erf::erfc(of_bits(x)))
 }
 
+// erf and erfc of one number, by bits.
+pub struct PairBits {
+    pub erf: u64,
+    pub erfc: u64,
+}
+
+pub fn erf_erfc_bits(x: u64) -> PairBits
+    ensures { λ r. ⌜ (r .erf ≡ onBits binary64 erfS x) × (r .erfc ≡ onBits binary64 erfcS x) ⌝ }
+{
+    if is_nan(x) {
+        return PairBits {
+            erf: NAN,
+            erfc: NAN,
+        };
+    }
+    let t = erf::erf_erfc(of_bits(x));
+    PairBits {
+        erf: bits_of(t.erf),
+        erfc: bits_of(t.erfc),
+    }
+}
+
 // The f32 functions, on the 32 bits of an f32.
 pub struct SignedBitsF32 {
     pub value: u32,

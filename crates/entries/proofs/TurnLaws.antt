@@ -8,6 +8,7 @@ use lib.ListN.{length, take, drop, length-append, length-drop, take-append-drop}
 use lib.Seq.{sets, sets-eq, take-at, drop-at, drop-drop}
 use Rattle.digits.specs.Digits.{word, digits}
 use Rattle.digits.proofs.DigitLaws.{length-digits, word-digits, word-below}
+use Rattle.kinds.specs.Kinds.{longestAnswer}
 use Rattle.replies.specs.Table.{table}
 use Rattle.feeding.specs.Feed.{State, Open, Stopped, Call, call, close}
 use Rattle.feeding.specs.Host.{Offer, Roomy}
@@ -147,7 +148,7 @@ turns-pushes f t w s (l ∷ ls) g h b n k =
       size = rest .size;
     }))
 
-roomy : (ls : List Lent) → Lendable ls → Roomy 10 (map offer ls)
+roomy : (ls : List Lent) → Lendable ls → Roomy longestAnswer (map offer ls)
 roomy [] k = tt
 roomy (l ∷ ls) k = (k .0 .0, roomy ls (k .1))
 

@@ -13,6 +13,7 @@ use Rattle.entries.proofs.apart.rvt_distancef.Reads as distancef
 use Rattle.entries.proofs.apart.rvt_distancef_code.Reads as distancef-code
 use Rattle.entries.proofs.feed_bytes.rvt_feed_push.Reads as push
 use Rattle.entries.proofs.feed_bytes.rvt_feed_close.Reads as close
+use Rattle.entries.proofs.pair.rvt_erf_erfc.Reads as pair
 use Rattle.entries.proofs.report.rvt_batch.Reads as batch
 use Rattle.entries.proofs.rvt_tgamma.Reads as tgamma
 use Rattle.entries.proofs.rvt_lgamma_r_value.Reads as value
@@ -70,6 +71,10 @@ distancef-determined κs a r r' s s' p q = p ∙ sym q
 
 pub distancef-code-determined : (κs : Lfts 0) (a : _) (r r' : ℕ) (s s' : _) → distancef-code.Post κs a r s → distancef-code.Post κs a r' s' → r ≡ r'
 distancef-code-determined κs a r r' s s' p q = p ∙ sym q
+
+-- the code, and every byte of the pair
+pub pair-determined : (κs : Lfts 1) (a : _) (r r' : ℕ) (s s' : _) → pair.Post κs a r s → pair.Post κs a r' s' → (r ≡ r') × (now (s .1 .0) ≡ now (s' .1 .0))
+pair-determined κs a r r' s s' p q = (p .code ∙ sym (q .code), p .bytes ∙ sym (q .bytes))
 
 -- the number, and every byte of the answer buffer
 same : (o : Out) (part : Out → ℕ) (r r' : ℕ) (a b b' : List ℕ) → Reported o part r a b → Reported o part r' a b' → (r ≡ r') × (b ≡ b')

@@ -1,4 +1,5 @@
--- What the entries of the batch and of the feed promise.
+-- What the entries of the pair, of the batch and of the feed promise.
+pub mod Pair
 pub mod Post
 pub mod Batch
 pub mod Feed

@@ -4,6 +4,7 @@ use mathlib.Core.List.{List, [], _∷_, _++_, map}
 use Prim.Native.Nat.{ℕ, zero, suc, _^_, _≤_, _<_}
 use lib.ListN.{length, take, drop}
 use Rattle.digits.specs.Digits.{word}
+use Rattle.kinds.specs.Kinds.{longestAnswer}
 use Rattle.records.specs.Codes.{FULL}
 use Rattle.records.specs.Run.{run}
 use Rattle.replies.specs.Table.{table}
@@ -35,16 +36,16 @@ turns feed s (l ∷ ls) =
     let rest = turns (c .feed) (drop taken s) ls in
     record { feed = rest .feed; answers = take written (c .answers) ++ rest .answers }
 
--- each buffer has room for ten bytes, and a length of 64 bits
+-- each buffer has room for the longest answer, and a length of 64 bits
 abbrev pub Lendable : List Lent → Type 0
 Lendable [] = Unit
-Lendable (l ∷ ls) = ((10 ≤ length (l .buffer)) × (length (l .buffer) < 256 ^ 8)) × Lendable ls
+Lendable (l ∷ ls) = ((longestAnswer ≤ length (l .buffer)) × (length (l .buffer) < 256 ^ 8)) × Lendable ls
 
 abbrev pub offer : Lent → Offer
 offer l = record { size = l .size; room = length (l .buffer) }
 
--- A stream of bytes that a host in C feeds in any pieces, from 32 zero bytes on, with room for ten bytes at each call and calls enough, is answered
--- as by a batch that has room for all: the answers in a row, and the code of closing.
+-- A stream of bytes that a host in C feeds in any pieces, from 32 zero bytes on, with room for the longest answer at each call and calls enough, is
+-- answered as by a batch that has room for all: the answers in a row, and the code of closing.
 abbrev pub FedAsBatch : Type 0
 FedAsBatch =
     (s : List ℕ) → Bytes s → length s < 256 ^ 8 → (ls : List Lent) → Lendable ls → length s ≤ offering (map offer ls) →

@@ -1,5 +1,6 @@
 // The feed as bytes that the host lends from call to call: the bytes held, how many they are, and what the last call took and wrote, each a number
 // of eight bytes.
+use crate::REFUSED;
 use digits::get;
 use digits::put;
 use feed::Feed;
@@ -9,9 +10,6 @@ ghost use Rattle.entries.specs.Feed.{feedAt, feedBytes, pushBytesS, clos
 
 // The bytes of a feed.
 const LENGTH: usize = 32;
-
-// The code of a feed that has another length.
-const REFUSED: u64 = 10;
 
 // The feed in the first 16 bytes.
 fn load(s: &[u8]) -> Feed

@@ -1,8 +1,10 @@
-// The C entries: numbers and byte slices only. A function's entry takes the argument's bits and gives the value's. Each batch entry does
-// the whole batch on the buffers that it is given, and gives one of the four numbers that the batch reports. A feed is bytes that the
-// host keeps. A distance takes the bits of two floats, and so does its code. The header is include/raveltrellis.h.
+// The C entries: numbers and byte slices only. A function's entry takes the argument's bits and gives the value's; that of erf and erfc at
+// once writes both into bytes that the host lends. Each batch entry does the whole batch on the buffers that it is given, and gives one of
+// the four numbers that the batch reports. A feed is bytes that the host keeps. A distance takes the bits of two floats, and so does its
+// code. The header is include/raveltrellis.h.
 mod apart;
 mod feed_bytes;
+mod pair;
 mod report;
 
 use stream::batch;
@@ -17,6 +19,9 @@ ghost use Rattle.erff.specs.Erff.{erffS, erfcfS};
 ghost use Rattle.by_bits.specs.ByBits.{onBits, valueOnBits, signOnBits};
 ghost use Rattle.stream.specs.Batch.{batchS};
 ghost use Rattle.entries.specs.Post.{Reported};
+
+// The code of a report, a feed or a pair that has another length.
+pub(crate) const REFUSED: u64 = 10;
 
 #[no_mangle]
 pub extern "C" fn rvt_tgamma(x: u64) -> u64

@@ -1,4 +1,5 @@
 // The batch in one call: its code, and its counts as bytes in a report that the host lends.
+use crate::REFUSED;
 use digits::put;
 use stream::batch;
 ghost use mathlib.Core.Path.{_≡_};
@@ -7,9 +8,6 @@ ghost use Rattle.entries.specs.Batch.{reportOf, callS, Made};
 
 // The bytes of a report.
 const LENGTH: usize = 24;
-
-// The code of a report that has another length.
-const REFUSED: u64 = 10;
 
 // Writes a report.
 fn tell(report: &mut [u8], records: u64, read: u64, written: u64)

@@ -7,11 +7,13 @@
 // From 28 on erfc is 2^-1022 times itself, or 2 - 2^-1022 for a negative x.
 // A list of coefficients is PP0, PP1, .. of the Rust; QQ, QA, SA and SB begin with their 1.0.
 ghost use mathlib.Core.Path.{_≡_};
-ghost use lib.Ieee.{neg};
+ghost use lib.Ieee.{binary64, neg};
 ghost use Rattle.words.specs.Pick.{if_then_else_};
 ghost use Rattle.words.specs.Tests.{_≠?_};
+ghost use Rattle.words.specs.Bits.{signS, sizeWordS};
 ghost use Rattle.erf.specs.Plan.{erfc1S, ratioS, shortS, erfc2S, smallS};
 ghost use Rattle.erf.specs.Erf64.{erf64, erfS, erfcS};
+ghost use Rattle.erf.specs.Shared.{Made};
 use exp::exp;
 use poly::horner;
 use words::bits::clear_low_word;
@@ -22,6 +24,18 @@ use words::fabs::fabs;
 const ERX: f64 = 8.45062911510467529297e-01; /* 0x3FEB0AC1, 0x60000000 */
 
 const EFX8: f64 = 1.02703333676410069053e+00; /* 0x3FF06EBA, 0x8214DB69 */
+
+// Cuts, as words of a size. Below 0.84375 both are made of `small`, from there on of `erfc2`: of one y, which each needs from one cut on and below
+// another, erf from 2^-28 to 6, erfc from 2^-56 to 28.
+const AT_0_84375: u32 = 0x3feb0000;
+
+const ERF_FROM: u32 = 0x3e300000;
+
+const ERF_UPTO: u32 = 0x40180000;
+
+const ERFC_FROM: u32 = 0x3c700000;
+
+const ERFC_UPTO: u32 = 0x403c0000;
 
 // Coefficients for approximation to erf on [0,0.84375].
 const PP: [f64; 5] = [
@@ -167,62 +181,129 @@ fn signed(sign: u32, y: f64) -> f64
     if sign != 0 { -y } else { y }
 }
 
-pub fn erf(x: f64) -> f64
+// Both of one number.
+pub struct Pair {
+    pub erf: f64,
+    pub erfc: f64,
+}
+
+// y as far as erf needs it. Elsewhere nobody looks at it, and x serves.
+fn y_of_erf(ix: u32, x: f64) -> f64
+    ensures { λ r. ⌜ Made erf64 0x3E300000 0x40180000 ix x r ⌝ }
+{
+    if ix < AT_0_84375 {
+        if ix < ERF_FROM {
+            return x;
+        }
+        return small(x);
+    }
+    if ix < ERF_UPTO {
+        return erfc2(ix, x);
+    }
+    x
+}
+
+// y as far as erfc needs it, which is farther.
+fn y_of_erfc(ix: u32, x: f64) -> f64
+    ensures { λ r. ⌜ Made erf64 0x3C700000 0x403C0000 ix x r ⌝ }
+{
+    if ix < AT_0_84375 {
+        if ix < ERFC_FROM {
+            return x;
+        }
+        return small(x);
+    }
+    if ix < ERFC_UPTO {
+        return erfc2(ix, x);
+    }
+    x
+}
+
+// erf, from y.
+fn erf_of(ix: u32, sign: u32, x: f64, y: f64) -> f64
+    requires { ⌜ (ix ≡ sizeWordS x) × (sign ≡ signS binary64 x) × Made erf64 0x3E300000 0x40180000 ix x y ⌝ }
     ensures { λ r. ⌜ r ≡ erfS x ⌝ }
 {
-    // a NaN leaves first: no later look at the bits of x has to allow for one
-    if x != x {
-        return x;
-    }
-    let ix = size_word(x);
-    let sign = sign(x);
     if ix >= 0x7ff00000 {
         return 1.0 - 2.0 * (sign as f64) + 1.0 / x;
     }
-    if ix < 0x3feb0000 {
-        if ix < 0x3e300000 {
+    if ix < AT_0_84375 {
+        if ix < ERF_FROM {
             return 0.125 * (8.0 * x + EFX8 * x);
         }
-        return x + x * small(x);
+        return x + x * y;
     }
-    if ix < 0x40180000 {
-        return signed(sign, 1.0 - erfc2(ix, x));
+    if ix < ERF_UPTO {
+        return signed(sign, 1.0 - y);
     }
     let x1p_1022 = f64::from_bits(0x0010000000000000);
     signed(sign, 1.0 - x1p_1022)
 }
 
-pub fn erfc(x: f64) -> f64
+// erfc, from y.
+fn erfc_of(ix: u32, sign: u32, x: f64, y: f64) -> f64
+    requires { ⌜ (ix ≡ sizeWordS x) × (sign ≡ signS binary64 x) × Made erf64 0x3C700000 0x403C0000 ix x y ⌝ }
     ensures { λ r. ⌜ r ≡ erfcS x ⌝ }
 {
-    // a NaN leaves first: no later look at the bits of x has to allow for one
-    if x != x {
-        return x;
-    }
-    let ix = size_word(x);
-    let sign = sign(x);
     if ix >= 0x7ff00000 {
         return 2.0 * (sign as f64) + 1.0 / x;
     }
-    if ix < 0x3feb0000 {
-        if ix < 0x3c700000 {
+    if ix < AT_0_84375 {
+        if ix < ERFC_FROM {
             return 1.0 - x;
         }
-        let y = small(x);
         if sign != 0 || ix < 0x3fd00000 {
             return 1.0 - (x + x * y);
         }
         return 0.5 - (x - 0.5 + x * y);
     }
-    if ix < 0x403c0000 {
+    if ix < ERFC_UPTO {
         if sign != 0 {
-            return 2.0 - erfc2(ix, x);
+            return 2.0 - y;
         }
-        return erfc2(ix, x);
+        return y;
     }
     let x1p_1022 = f64::from_bits(0x0010000000000000);
     if sign != 0 {
         return 2.0 - x1p_1022;
     }
     x1p_1022 * x1p_1022
+}
+
+pub fn erf_erfc(x: f64) -> Pair
+    ensures { λ r. ⌜ (r .erf ≡ erfS x) × (r .erfc ≡ erfcS x) ⌝ }
+{
+    // a NaN leaves first: no later look at the bits of x has to allow for one
+    if x != x {
+        return Pair { erf: x, erfc: x };
+    }
+    let ix = size_word(x);
+    let sign = sign(x);
+    let y = y_of_erfc(ix, x);
+    Pair {
+        erf: erf_of(ix, sign, x, y),
+        erfc: erfc_of(ix, sign, x, y),
+    }
+}
+
+// The pair's field alone, with no more of y than it needs.
+pub fn erf(x: f64) -> f64
+    ensures { λ r. ⌜ r ≡ erfS x ⌝ }
+{
+    if x != x {
+        return x;
+    }
+    let ix = size_word(x);
+    erf_of(ix, sign(x), x, y_of_erf(ix, x))
+}
+
+// The pair's other field alone.
+pub fn erfc(x: f64) -> f64
+    ensures { λ r. ⌜ r ≡ erfcS x ⌝ }
+{
+    if x != x {
+        return x;
+    }
+    let ix = size_word(x);
+    erfc_of(ix, sign(x), x, y_of_erfc(ix, x))
 }

@@ -11,6 +11,7 @@ use lib.ListN.{length, take, drop, getD}
 use lib.Seq.{take-length}
 use Rattle.digits.specs.Digits.{word, digits}
 use Rattle.digits.proofs.DigitLaws.{word-short, digits-word}
+use Rattle.kinds.specs.Kinds.{longestAnswer}
 use Rattle.records.specs.Row.{Row, rowIn}
 use Rattle.records.specs.Run.{Out, one}
 use Rattle.replies.specs.Table.{table}
@@ -27,13 +28,13 @@ use Rattle.feed.specs.Pushes.{Bytes, Pushes, pushes, PushedAsBatch}
 use Rattle.feed.specs.declared.Feed.{Feed}
 use Rattle.feed.proofs.FieldLaws.{meant-open}
 
--- no answer is longer than ten bytes
-pub longest : Longest table 10
+-- no answer is longer than the longest
+pub longest : Longest table longestAnswer
 longest k b _ = reply-longest k b
 
--- with room for ten a push gets on
-pub ten-gets-on : Progress table 10
-ten-gets-on = progress table 10
+-- with room for the longest a push gets on
+pub gets-on : Progress table longestAnswer
+gets-on = progress table longestAnswer
 
 -- ---- bytes
 
@@ -122,7 +123,7 @@ pub pushed-as-batch : PushedAsBatch
 pushed-as-batch s b os roomy enough room n =
     let r = host table (Open []) s os in
     let e = pushes-host (Open []) s os (begun-none table) tt b in
-    let same = same-answers table 10 longest s os roomy enough room n in
+    let same = same-answers table longestAnswer longest s os roomy enough room n in
     let m : meant (fields (r .feed)) ≡ r .feed = carried (r .feed) (host-good table (Open []) s os (begun-none table)) (host-held (Open []) s os (begun-none table) tt b) in (
       ap (λ (y : Pushes). y .answers) e ∙ same .answers,
       ap (λ (y : Pushes). close table (meant (y .feed)) .code) e ∙ ap (λ (y : State). close table y .code) m ∙ same .code,

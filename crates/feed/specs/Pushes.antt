@@ -3,6 +3,7 @@ use mathlib.Core.Path.{_≡_}
 use mathlib.Core.List.{List, [], _∷_, _++_}
 use Prim.Native.Nat.{ℕ, _≤_, _<_}
 use lib.ListN.{length, take, drop}
+use Rattle.kinds.specs.Kinds.{longestAnswer}
 use Rattle.records.specs.Codes.{FULL}
 use Rattle.records.specs.Run.{run}
 use Rattle.replies.specs.Table.{table}
@@ -30,11 +31,11 @@ pushes f s (o ∷ os) =
     let rest = pushes (fields (c .feed)) (drop (c .taken) s) os in
     record { feed = rest .feed; answers = c .bytes ++ rest .answers }
 
--- A stream of bytes that is pushed in any pieces, with room for ten bytes at each push and pushes enough, is answered as by a batch that has room for
--- all: the answers in a row, and the code of closing.
+-- A stream of bytes that is pushed in any pieces, with room for the longest answer at each push and pushes enough, is answered as by a batch that
+-- has room for all: the answers in a row, and the code of closing.
 abbrev pub PushedAsBatch : Type 0
 PushedAsBatch =
-    (s : List ℕ) → Bytes s → (os : List Offer) → Roomy 10 os → length s ≤ offering os →
+    (s : List ℕ) → Bytes s → (os : List Offer) → Roomy longestAnswer os → length s ≤ offering os →
     (room : ℕ) → (run table s room .code ≡ FULL → ⊥) →
     let r = pushes (fields (Open [])) s os in
     (r .answers ≡ run table s room .bytes) × (closeS (r .feed) .code ≡ run table s room .code)

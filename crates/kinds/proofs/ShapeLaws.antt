@@ -7,7 +7,7 @@ use native.Mathlib.Omega.{arith}
 use lib.Dec.{T, leb, eqb, leb→le}
 use lib.ListN.{length}
 use Rattle.kinds.specs.Shape.{Shape, shape, shapeIn, requestLength, answerLength}
-use Rattle.kinds.specs.Kinds.{shapes, shapeOf}
+use Rattle.kinds.specs.Kinds.{shapes, shapeOf, longestAnswer}
 use Rattle.kinds.proofs.Every.{and-left, and-right}
 
 -- the test passes at each row
@@ -35,7 +35,11 @@ pub answer-light : (k : ℕ) → answerLength (shapeOf k) ≤ 2 * requestLength 
 unfolding shapes
 answer-light k = leb→le _ _ (rows-at (λ s. leb (answerLength s) (2 * requestLength s)) shapes tt (λ _. tt) k)
 
--- the longest answer is of ten bytes
-pub answer-longest : (k : ℕ) → answerLength (shapeOf k) ≤ 10
+-- no answer is longer than the longest, and kind 7 has one that long
+pub answer-longest : (k : ℕ) → answerLength (shapeOf k) ≤ longestAnswer
 unfolding shapes
-answer-longest k = leb→le _ _ (rows-at (λ s. leb (answerLength s) 10) shapes tt (λ _. tt) k)
+answer-longest k = leb→le _ _ (rows-at (λ s. leb (answerLength s) longestAnswer) shapes tt (λ _. tt) k)
+
+pub longest-reached : answerLength (shapeOf 7) ≡ longestAnswer
+unfolding shapes shapeIn
+longest-reached = refl

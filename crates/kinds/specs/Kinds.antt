@@ -10,6 +10,7 @@ shapes =
     ∷ shape 2 8 (8 ∷ []) (sign ∷ [])
     ∷ shape 3 8 (8 ∷ []) []
     ∷ shape 4 8 (8 ∷ []) []
+    ∷ shape 7 8 (8 ∷ 8 ∷ []) []
     ∷ shape 17 4 (4 ∷ []) (sign ∷ [])
     ∷ shape 18 4 (4 ∷ []) []
     ∷ shape 19 4 (4 ∷ []) []
@@ -18,3 +19,7 @@ shapes =
 
 abbrev pub shapeOf : ℕ → Shape
 shapeOf k = shapeIn shapes k
+
+-- the bytes of the longest answer
+abbrev pub longestAnswer : ℕ
+longestAnswer = 17

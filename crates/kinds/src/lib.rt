@@ -7,7 +7,7 @@ ghost use Rattle.kinds.specs.Kinds.{shapeOf};
 
 // The widths of the bodies, a hex digit each, the lowest kind's last: of kinds 0 to 15, and of kinds 16 to 31. An array of 256 would be laid
 // on the stack at each look into it.
-const LOW: u64 = 0x0000_0000_0008_8880;
+const LOW: u64 = 0x0000_0000_8008_8880;
 
 const HIGH: u64 = 0x0000_0000_0004_4440;
 

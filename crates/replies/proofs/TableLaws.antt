@@ -11,7 +11,7 @@ use lib.Dec.{T, eqb, leb, eqb→eq, leb→le}
 use lib.ListN.{length}
 use Rattle.words.specs.Pick.{pick}
 use Rattle.kinds.specs.Shape.{Shape, shape, total, shapeIn, requestLength, answerLength}
-use Rattle.kinds.specs.Kinds.{shapes, shapeOf}
+use Rattle.kinds.specs.Kinds.{shapes, shapeOf, longestAnswer}
 use Rattle.kinds.proofs.Every.{and-left, and-right}
 use Rattle.kinds.proofs.ShapeLaws.{body-small, answer-light, answer-longest}
 use Rattle.records.specs.Reply.{bytesOf}
@@ -122,8 +122,8 @@ value-short k b = short-in meanings tt k b
 pub reply-light : (k b : ℕ) → length (bytesOf (rowIn table k .reply b)) ≤ 2 * (1 + rowIn table k .width)
 reply-light k b = omega (arith, reply-length k b, row-width k, answer-light k)
 
--- the longest is of ten bytes
-pub reply-longest : (k b : ℕ) → length (bytesOf (rowIn table k .reply b)) ≤ 10
+-- no reply is longer than the longest answer
+pub reply-longest : (k b : ℕ) → length (bytesOf (rowIn table k .reply b)) ≤ longestAnswer
 reply-longest k b = omega (arith, reply-length k b, answer-longest k)
 
 pub width-small : (k : ℕ) → rowIn table k .width ≤ 8

@@ -30,12 +30,17 @@ plain k f = record { kind = k; value = f; behind = λ b. 0 }
 abbrev pub signed : ℕ → (ℕ → ℕ) → (ℕ → ℤ) → Meaning
 signed k f s = record { kind = k; value = f; behind = λ b. signByte (s b) }
 
+-- two values, the second behind the first
+abbrev pub paired : ℕ → (ℕ → ℕ) → (ℕ → ℕ) → Meaning
+paired k f g = record { kind = k; value = f; behind = g }
+
 unfoldable pub meanings : List Meaning
 meanings =
     plain 1 (onBits binary64 tgammaS)
     ∷ signed 2 (valueOnBits binary64 lgammaS) (signOnBits binary64 lgammaS)
     ∷ plain 3 (onBits binary64 erfS)
     ∷ plain 4 (onBits binary64 erfcS)
+    ∷ paired 7 (onBits binary64 erfS) (onBits binary64 erfcS)
     ∷ signed 17 (valueOnBits binary32 lgammafS) (signOnBits binary32 lgammafS)
     ∷ plain 18 (onBits binary32 tgammafS)
     ∷ plain 19 (onBits binary32 erffS)

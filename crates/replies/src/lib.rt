@@ -1,6 +1,7 @@
 // The reply to a kind and the number that its body makes: the only place that joins the shapes of the kinds with the functions by bits. A
 // kind has a function of its own here, whose contract is the kind's row, and an arm of `reply_to`.
 use by_bits::erf_bits;
+use by_bits::erf_erfc_bits;
 use by_bits::erfc_bits;
 use by_bits::erfcf_bits;
 use by_bits::erff_bits;
@@ -41,6 +42,19 @@ fn signed_number(head: u8, width: usize, bits: u64, sign: i32) -> Reply
     }
 }
 
+// A reply of two numbers of one width.
+fn two_numbers(head: u8, width: usize, bits: u64, extra: u64) -> Reply
+    ensures { λ r. ⌜ r ≡ record { head = head; width = width; bits = bits; more = width; extra = extra } ⌝ }
+{
+    Reply {
+        head,
+        width,
+        bits,
+        more: width,
+        extra,
+    }
+}
+
 // The pattern of an f32, from the number of a body.
 fn low_half(bits: u64) -> u32
     ensures { λ r. ⌜ r ≡ bits % 256 ^ 4 ⌝ }
@@ -71,6 +85,13 @@ fn erfc_reply(bits: u64) -> Reply
     ensures { λ r. ⌜ r ≡ replyS 4 bits ⌝ }
 {
     number(132, 8, erfc_bits(bits))
+}
+
+fn erf_erfc_reply(bits: u64) -> Reply
+    ensures { λ r. ⌜ r ≡ replyS 7 bits ⌝ }
+{
+    let t = erf_erfc_bits(bits);
+    two_numbers(135, 8, t.erf, t.erfc)
 }
 
 fn lgammaf_r_reply(bits: u64) -> Reply
@@ -107,6 +128,7 @@ pub fn reply_to(kind: u8, bits: u64) -> Reply
         2 => lgamma_r_reply(bits),
         3 => erf_reply(bits),
         4 => erfc_reply(bits),
+        7 => erf_erfc_reply(bits),
         17 => lgammaf_r_reply(bits),
         18 => tgammaf_reply(bits),
         19 => erff_reply(bits),

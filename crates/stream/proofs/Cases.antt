@@ -1,4 +1,4 @@
--- The counts of batches on one record of erf or of tgammaf, on the start of one, on an unknown kind and on nothing, by computation: they look at no value.
+-- The counts of batches on one record of erf, of both error functions or of tgammaf, on the start of one, on an unknown kind and on nothing, by computation: they look at no value.
 -- Assumes nothing.
 use mathlib.Core.Path.{_≡_, refl}
 use mathlib.Core.List.{List, [], _∷_}
@@ -26,6 +26,22 @@ whole = (refl, refl)
 pub no-room : Counts (run table erf6 8) 3 0 0 0
 unfolding runBy stepsBy one rowIn table meanings shapes shapeIn bytesOf digits
 no-room = (refl, refl)
+
+-- both error functions of 6: a kind of nine bytes in and seventeen out
+abbrev both6 : List ℕ
+both6 = 7 ∷ 0 ∷ 0 ∷ 0 ∷ 0 ∷ 0 ∷ 0 ∷ 24 ∷ 64 ∷ []
+
+pub both : Counts (run table both6 17) 0 1 9 17
+unfolding runBy stepsBy one rowIn table meanings shapes shapeIn bytesOf digits
+both = (refl, refl)
+
+pub both-no-room : Counts (run table both6 16) 3 0 0 0
+unfolding runBy stepsBy one rowIn table meanings shapes shapeIn bytesOf digits
+both-no-room = (refl, refl)
+
+pub both-cut : Counts (run table (7 ∷ 0 ∷ 0 ∷ 0 ∷ 0 ∷ 0 ∷ 0 ∷ 24 ∷ []) 17) 2 0 0 0
+unfolding runBy stepsBy one rowIn table meanings shapes shapeIn bytesOf digits
+both-cut = (refl, refl)
 
 -- tgammaf of 1: a kind of five bytes in and five out
 abbrev tgammaf1 : List ℕ

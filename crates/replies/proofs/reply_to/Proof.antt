@@ -21,7 +21,9 @@ reply-to-spec =
     (λ c κs. tt)
     (λ c κs. tt)
     (λ c κs. tt)
+    (λ c κs. tt)
     -- what each arm gives: its kind's row, and the last one none
+    (λ c. cc)
     (λ c. cc)
     (λ c. cc)
     (λ c. cc)

@@ -6,6 +6,7 @@ use native.Mathlib.Omega.{arith}
 use borrow.Author.Needs.{needs}
 use lib.ListN.{length, drop, getD}
 use Rattle.digits.specs.Digits.{word}
+use Rattle.kinds.specs.Kinds.{longestAnswer}
 use Rattle.records.specs.Reply.{bytesOf}
 use Rattle.records.specs.Row.{rowIn}
 use Rattle.replies.specs.Table.{table}
@@ -42,7 +43,7 @@ module _ (b : tie.After-body) where
   width-is : b .body .result ≡ rowIn table kind .width
   width-is = b .body .ensures ∙ sym (row-width kind)
 
--- where the reply was made: it is the row's, and no longer than ten bytes
+-- where the reply was made: it is the row's, and no longer than the longest answer
 module _ (p : tie.After-reply-to) where
   abbrev looked : tie.After-body
   looked = p .before .before .before .before
@@ -55,9 +56,9 @@ module _ (p : tie.After-reply-to) where
       ap bytesOf (answered (s looked) (at looked + 1) (looked .body .result) (kind looked) (p .before .get .result) (p .reply-to .result)
       (λ i. looked .before .shared-slice-known2 .given i .fits) (looked .body .ensures) (p .before .get .ensures) (p .reply-to .ensures))
 
-  reply-short : 1 + p .reply-to .result .width + p .reply-to .result .more ≤ 10
+  reply-short : 1 + p .reply-to .result .width + p .reply-to .result .more ≤ longestAnswer
   reply-short =
-      subst (λ (n : ℕ). n ≤ 10) (sym (ap length reply-is) ∙ length-bytes (p .reply-to .result))
+      subst (λ (n : ℕ). n ≤ longestAnswer) (sym (ap length reply-is) ∙ length-bytes (p .reply-to .result))
       (reply-longest (kind looked) (word (looked .body .result) (drop (at looked + 1) (s looked))))
 
 stopped-requires : tie.Need-stopped-requires
