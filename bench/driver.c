@@ -13,8 +13,7 @@
  * the status is 1. musl's functions are those of its libc.a with the prefix musl_, where HAVE_MUSL is set; the entries of an
  * earlier port have the prefix earlier_, where HAVE_EARLIER is set, and its answers are held to the port's. The feed is timed
  * where HAVE_FEED is set, records of both error functions where HAVE_PAIR is; tgammaf and erf_erfc where WITHOUT_tgammaf and
- * WITHOUT_erf_erfc are not. kinds.h is made from
- * kinds.txt, and a function finds its kind there by its name.
+ * WITHOUT_erf_erfc are not. kinds.h is made from kinds.txt, and a function finds its kind there by its name.
  */
 #define _GNU_SOURCE
 #include "raveltrellis.h"

@@ -15,7 +15,7 @@ struct sizes {
 
 static const struct sizes SIZES[] = {
     {"errors", ALL}, {"errors_2^-60", 0}, {"errors_2^-56", 1}, {"errors_2^-28", 2}, {"errors_1/4", 3},
-    {"errors_0.84375", 4}, {"errors_1.25", 5}, {"errors_1/0.35", 6}, {"errors_6", 7}, {"errors_28", 8}};
+    {"errors_0.84375", 4}, {"errors_1.25", 5}, {"errors_2.857", 6}, {"errors_6", 7}, {"errors_28", 8}};
 
 enum { SIZE_COUNT = sizeof SIZES / sizeof SIZES[0], ERROR_COUNT = SIDES == 3 ? 5 : 3 };
 

@@ -19,15 +19,10 @@ static uint32_t bits_of_f32(float d) { uint32_t x; memcpy(&x, &d, 4); return x; 
 #define BY_BITS_F32(name, call) \
     static uint32_t name(uint32_t x) { int sign; (void)sign; return bits_of_f32(call); }
 
-/* erf and erfc of a C library, which has no more than the two. */
-#define BOTH(name, erf, erfc) \
-    static void name(uint64_t x, uint64_t *pair) { pair[0] = erf(x); pair[1] = erfc(x); }
-
 BY_BITS(glibc_tgamma, tgamma(f64_of(x)))
 BY_BITS(glibc_lgamma_r, lgamma_r(f64_of(x), &sign))
 BY_BITS(glibc_erf, erf(f64_of(x)))
 BY_BITS(glibc_erfc, erfc(f64_of(x)))
-BOTH(glibc_erf_erfc, glibc_erf, glibc_erfc)
 BY_BITS_F32(glibc_lgammaf_r, lgammaf_r(f32_of(x), &sign))
 BY_BITS_F32(glibc_tgammaf, tgammaf(f32_of(x)))
 BY_BITS_F32(glibc_erff, erff(f32_of(x)))
@@ -40,7 +35,6 @@ BY_BITS(by_musl_tgamma, musl_tgamma(f64_of(x)))
 BY_BITS(by_musl_lgamma_r, musl_lgamma_r(f64_of(x), &sign))
 BY_BITS(by_musl_erf, musl_erf(f64_of(x)))
 BY_BITS(by_musl_erfc, musl_erfc(f64_of(x)))
-BOTH(by_musl_erf_erfc, by_musl_erf, by_musl_erfc)
 BY_BITS_F32(by_musl_lgammaf_r, musl_lgammaf_r(f32_of(x), &sign))
 BY_BITS_F32(by_musl_tgammaf, musl_tgammaf(f32_of(x)))
 BY_BITS_F32(by_musl_erff, musl_erff(f32_of(x)))
@@ -113,20 +107,26 @@ struct function {
     void (*pair[LIBRARIES])(uint64_t, uint64_t *);
 };
 
-/* The pair by its C entry. */
-#define PAIR(name, entry) \
+/* Both error functions: by the C entry, and by the two functions of a C library, which has no other way. */
+#ifndef WITHOUT_erf_erfc
+#define BY_ENTRY(name, entry) \
     static void name(uint64_t x, uint64_t *pair) { \
         uint8_t bytes[RVT_PAIR_BYTES]; \
         entry(x, bytes, sizeof bytes); \
         pair[0] = rvt_number(bytes); \
         pair[1] = rvt_number(bytes + 8); \
     }
+#define BY_BOTH(name, erf, erfc) \
+    static void name(uint64_t x, uint64_t *pair) { pair[0] = erf(x); pair[1] = erfc(x); }
 
-#ifndef WITHOUT_erf_erfc
-PAIR(port_erf_erfc, rvt_erf_erfc)
+BY_ENTRY(port_erf_erfc, rvt_erf_erfc)
+BY_BOTH(glibc_erf_erfc, glibc_erf, glibc_erfc)
+#ifdef HAVE_MUSL
+BY_BOTH(by_musl_erf_erfc, by_musl_erf, by_musl_erfc)
+#endif
 #ifdef HAVE_EARLIER
 uint64_t earlier_rvt_erf_erfc(uint64_t, uint8_t *, size_t);
-PAIR(earlier_port_erf_erfc, earlier_rvt_erf_erfc)
+BY_ENTRY(earlier_port_erf_erfc, earlier_rvt_erf_erfc)
 #endif
 #endif
 
