@@ -1,7 +1,7 @@
 /*
  * header.c: what include/raveltrellis.h writes out itself, tried from C and from C++ (the file is
- * both): the kinds and codes, the functions and the distance on double and float, and the report and
- * the feed as structs. Says which are wrong.
+ * both): the kinds and codes, the functions and the distance on double and float, and the pair, the
+ * report and the feed as structs. Says which are wrong.
  */
 #include <stdio.h>
 
@@ -44,8 +44,8 @@ static void doubles(void) {
     check(same(rvt_lgamma_r_f64(-0.5, NULL), rvt_lgamma_r_value(0xBFE0000000000000)), "log-gamma with no sign");
 }
 
-/* Both error functions are those of each, at each region's edges, both signs, and what is no number; the pair is filled, and
- * nothing round it; and one of another length is left alone. */
+/* Both error functions are those of each, beside every cut, of both signs, and of what is no number; the pair
+ * is filled, and nothing round it; and one of another length is left alone. */
 static void pairs(void) {
     static const uint64_t at[] = {0, 1, 0x3C6FFFFFFFFFFFFF, 0x3C70000000000000, 0x3E2FFFFFFFFFFFFF, 0x3E30000000000000,
                                   0x3FCFFFFFFFFFFFFF, 0x3FD0000000000000, 0x3FEAFFFFFFFFFFFF, 0x3FEB000000000000,
@@ -57,8 +57,8 @@ static void pairs(void) {
     both = rvt_erf_erfc_f64(-6.0);
     check(same(both.erf, 0xBFF0000000000000) && same(both.erfc, 0x4000000000000000), "erf and erfc of -6 are -1 and 2");
     for (size_t i = 0; i < sizeof at / sizeof at[0]; i++)
-        for (int minus = 0; minus < 2; minus++) {
-            uint64_t x = at[i] | (uint64_t)minus << 63;
+        for (uint64_t minus = 0; minus < 2; minus++) {
+            uint64_t x = at[i] | minus << 63;
             uint8_t bytes[2 + RVT_PAIR_BYTES];
             memset(bytes, 0xA5, sizeof bytes);
             check(rvt_erf_erfc(x, bytes + 1, RVT_PAIR_BYTES) == RVT_DONE, "both by one call");

@@ -36,33 +36,16 @@ static const struct kind *kind_of(uint8_t number) {
 }
 
 /* An argument by the bytes of the body; a value's entry and a sign by the bytes of the tail, which is
- * the sign where there is one. */
+ * the sign where there is one; and the bytes of the values: one, or a pair, which its entry writes. */
 #define ARGUMENT_8(x) (x)
 #define ARGUMENT_4(x) ((uint32_t)(x))
 #define VALUE_0(name) rvt_##name
 #define VALUE_1(name) rvt_##name##_value
 #define SIGN_0(name, x) 0
 #define SIGN_1(name, x) rvt_##name##_sign(x)
-
-static uint64_t value(uint8_t kind, uint64_t x) {
-    switch (kind) {
-#define KIND(number, name, body, values, tail) \
-    case number: return VALUE_##tail(name)(ARGUMENT_##body(x));
-#include "kinds.h"
-#undef KIND
-    default: return 0;
-    }
-}
-
-static int sign(uint8_t kind, uint64_t x) {
-    switch (kind) {
-#define KIND(number, name, body, values, tail) \
-    case number: return SIGN_##tail(name, ARGUMENT_##body(x));
-#include "kinds.h"
-#undef KIND
-    default: return 0;
-    }
-}
+#define VALUES_4(to, name, tail, x) put(to, 4, VALUE_##tail(name)(x))
+#define VALUES_8(to, name, tail, x) put(to, 8, VALUE_##tail(name)(x))
+#define VALUES_16(to, name, tail, x) rvt_##name(x, to, RVT_PAIR_BYTES)
 
 static uint64_t get(const uint8_t *bytes, size_t width) {
     uint64_t x = 0;
@@ -76,6 +59,25 @@ static void put(uint8_t *bytes, size_t width, uint64_t x) {
         bytes[i] = (uint8_t)(x >> 8 * i);
 }
 
+static void put_values(uint8_t *to, uint8_t kind, uint64_t x) {
+    switch (kind) {
+#define KIND(number, name, body, values, tail) \
+    case number: VALUES_##values(to, name, tail, ARGUMENT_##body(x)); break;
+#include "kinds.h"
+#undef KIND
+    }
+}
+
+static int sign(uint8_t kind, uint64_t x) {
+    switch (kind) {
+#define KIND(number, name, body, values, tail) \
+    case number: return SIGN_##tail(name, ARGUMENT_##body(x));
+#include "kinds.h"
+#undef KIND
+    default: return 0;
+    }
+}
+
 /* 1 for plus and 255 for minus; 0, which no answer has, for a number that is no sign. */
 static uint8_t sign_byte(int s) { return s == 1 ? 1 : s == -1 ? 255 : 0; }
 
@@ -84,7 +86,7 @@ static size_t answer(uint8_t *to, const uint8_t *record) {
     const struct kind *k = kind_of(record[0]);
     uint64_t x = get(record + 1, k->body);
     to[0] = (uint8_t)(k->number + 128);
-    put(to + 1, k->values, value(k->number, x));
+    put_values(to + 1, k->number, x);
     if (k->tail > 0)
         to[1 + k->values] = sign_byte(sign(k->number, x));
     return 1 + k->values + k->tail;
