@@ -9,10 +9,10 @@
  *
  * A pass is 4,000 arguments spread evenly over the function's regions, of both signs, shuffled. The libraries take turns,
  * and the best of REPEATS passes counts. After each turn every answer of the port is held to the Rust's, of the feed to
- * the batch's, and of both error functions to those of each: where one differs, the function and the argument are said and
- * the status is 1. musl's functions are those of its libc.a with the prefix musl_, where HAVE_MUSL is set; the entries of an
+ * the batch's, and of both error functions to those of erf and of erfc: where one differs, the function and the argument are
+ * said and the status is 1. musl's functions are those of its libc.a with the prefix musl_, where HAVE_MUSL is set; the entries of an
  * earlier port have the prefix earlier_, where HAVE_EARLIER is set, and its answers are held to the port's. The feed is timed
- * where HAVE_FEED is set, records of both error functions where HAVE_PAIR is; tgammaf and erf_erfc where WITHOUT_tgammaf and
+ * where HAVE_FEED is set, records of both error functions where HAVE_BOTH is; tgammaf and erf_erfc where WITHOUT_tgammaf and
  * WITHOUT_erf_erfc are not. kinds.h is made from kinds.txt, and a function finds its kind there by its name.
  */
 #define _GNU_SOURCE
@@ -40,9 +40,9 @@ static uint64_t next(void) { /* splitmix64 */
     return z ^ z >> 31;
 }
 
-/* The bits of an argument: a region, where it is not one alone, then a pattern within it, then a sign. */
-static uint64_t argument(const struct function *f, int alone) {
-    int region = alone < 0 ? (int)(next() % (uint64_t)f->regions->count) : alone;
+/* The bits of an argument of a region, or of a random one for ALL: a pattern within it, then a sign. */
+static uint64_t argument(const struct function *f, int region) {
+    if (region == ALL) region = (int)(next() % (uint64_t)f->regions->count);
     uint64_t from = bits_of(f->regions->at[region]), upto = bits_of(f->regions->at[region + 1]);
     double x = f64_of(from + next() % (upto - from));
     if (next() % 2) x = -x;
@@ -83,11 +83,11 @@ static uint8_t answers[SIDES][LONGEST * COUNT];
 static void functions_pass(const struct function *f, int library) {
     uint64_t (*wide)(uint64_t) = f->f64[library], *to = values[library];
     uint32_t (*narrow)(uint32_t) = f->f32[library];
-    void (*pair)(uint64_t, uint64_t *) = f->pair[library];
+    void (*both)(uint64_t, uint64_t *) = f->both[library];
     if (wide)
         for (int i = 0; i < COUNT; i++) to[i] = wide(arguments[i]);
-    else if (pair)
-        for (int i = 0; i < COUNT; i++) pair(arguments[i], to + 2 * i);
+    else if (both)
+        for (int i = 0; i < COUNT; i++) both(arguments[i], to + 2 * i);
     else
         for (int i = 0; i < COUNT; i++) to[i] = narrow((uint32_t)arguments[i]);
 }
@@ -166,11 +166,11 @@ static void differs(const char *what, const char *name, uint64_t x, const char *
 /* The port's answers are the Rust's, and the earlier port's. */
 static void same_values(const struct function *f) {
     const uint64_t *ours = values[PORT];
+    int each = f->both[PORT] ? 2 : 1;
     for (int l = RUST; l < SIDES; l++) {
         if (memcmp(ours, values[l], sizeof values[0]) == 0) continue;
-        for (int i = 0; i < 2 * COUNT; i++)
-            if (ours[i] != values[l][i])
-                differs("function", f->name, arguments[f->pair[PORT] ? i / 2 : i], LIBRARY[PORT], ours[i], LIBRARY[l], values[l][i]);
+        for (int i = 0; i < each * COUNT; i++)
+            if (ours[i] != values[l][i]) differs("function", f->name, arguments[i / each], LIBRARY[PORT], ours[i], LIBRARY[l], values[l][i]);
         exit(1);
     }
 }
@@ -210,8 +210,8 @@ static double now(void) {
     return t.tv_sec * 1e9 + t.tv_nsec;
 }
 
-static void print_times(const char *what, const char *const *library, const double *best) {
-    for (int l = 0; l < LIBRARIES; l++)
+static void print_times(const char *what, const char *const *library, const double *best, int count) {
+    for (int l = 0; l < count; l++)
         if (best[l] < 1e300) printf("%s %s %.2f\n", what, library[l], best[l] / COUNT);
     fflush(stdout);
 }
@@ -221,7 +221,7 @@ static void time_function(const struct function *f) {
     make_arguments(f);
     for (int n = 0; n < REPEATS; n++) {
         for (int l = 0; l < LIBRARIES; l++) {
-            if (!f->f64[l] && !f->f32[l] && !f->pair[l]) continue;
+            if (!f->f64[l] && !f->f32[l] && !f->both[l]) continue;
             memset(values[l], 0, sizeof values[l]);
             double start = now();
             functions_pass(f, l);
@@ -229,7 +229,7 @@ static void time_function(const struct function *f) {
         }
         same_values(f);
     }
-    print_times(f->name, LIBRARY, best);
+    print_times(f->name, LIBRARY, best, LIBRARIES);
 }
 
 static void time_records(const struct pair *p) {
@@ -244,10 +244,10 @@ static void time_records(const struct pair *p) {
         }
         same_answers(p);
     }
-    print_times(p->name, sides(p), best);
+    print_times(p->name, sides(p), best, side_count(p));
 }
 
-#include "errors.h"
+#include "both.h"
 
 /* ---- the commands */
 
@@ -260,8 +260,8 @@ static void print_names(const char *what, const char *const *library, int count)
 static int names(void) {
     for (size_t i = 0; i < FUNCTION_COUNT; i++) print_names(FUNCTIONS[i].name, LIBRARY, SIDES);
     for (const struct pair *p = PAIRS; p < PAIRS + PAIR_COUNT; p++) print_names(p->name, sides(p), side_count(p));
-#ifdef HAVE_PAIR
-    for (const struct sizes *s = SIZES; s < SIZES + SIZE_COUNT; s++) print_names(s->name, ERRORS, ERROR_COUNT);
+#ifdef HAVE_BOTH
+    for (const struct sizes *s = SIZES; s < SIZES + SIZE_COUNT; s++) print_names(s->name, BOTH, BOTH_COUNT);
 #endif
     for (size_t i = 0; i < KIND_COUNT; i++)
         if (!function_named(KINDS[i].name)) fprintf(stderr, "bench: kind %d, %s, is not timed\n", KINDS[i].number, KINDS[i].name);
@@ -282,10 +282,10 @@ static int times(uint64_t seed) {
         progress(p->name);
         time_records(p);
     }
-#ifdef HAVE_PAIR
+#ifdef HAVE_BOTH
     for (const struct sizes *s = SIZES; s < SIZES + SIZE_COUNT; s++) {
         progress(s->name);
-        time_errors(s);
+        time_both(s);
     }
 #endif
     return 0;
@@ -304,20 +304,20 @@ static int same(uint64_t seed) {
         for (int side = 0; side < side_count(p); side++) records_pass(p, side);
         same_answers(p);
     }
-#ifdef HAVE_PAIR
+#ifdef HAVE_BOTH
     for (const struct sizes *s = SIZES; s < SIZES + SIZE_COUNT; s++) {
-        make_errors(s);
-        for (int side = 0; side < ERROR_COUNT; side++) errors_pass(s, side);
-        same_errors(s);
+        make_both(s);
+        for (int side = 0; side < BOTH_COUNT; side++) both_pass(s, side);
+        same_both(s);
     }
 #endif
     return 0;
 }
 
 static int passes(const char *what, const char *library, long count) {
-#ifdef HAVE_PAIR
+#ifdef HAVE_BOTH
     for (const struct sizes *s = SIZES; s < SIZES + SIZE_COUNT; s++)
-        if (strcmp(what, s->name) == 0) return error_passes(s, library, count);
+        if (strcmp(what, s->name) == 0) return both_passes(s, library, count);
 #endif
     const struct function *f = function_named(what);
     const struct pair *p = f ? NULL : pair_named(what);

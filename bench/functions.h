@@ -104,10 +104,10 @@ struct function {
     const struct regions *regions;
     uint64_t (*f64[LIBRARIES])(uint64_t);
     uint32_t (*f32[LIBRARIES])(uint32_t);
-    void (*pair[LIBRARIES])(uint64_t, uint64_t *);
+    void (*both[LIBRARIES])(uint64_t, uint64_t *);
 };
 
-/* Both error functions: by the C entry, and by the two functions of a C library, which has no other way. */
+/* erf and erfc of one number: by the C entry, and by the two functions of a C library, which has no other way. */
 #ifndef WITHOUT_erf_erfc
 #define BY_ENTRY(name, entry) \
     static void name(uint64_t x, uint64_t *pair) { \

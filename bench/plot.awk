@@ -1,6 +1,7 @@
-# plot.awk: the kept summaries of before and now as bars in SVG, a group for each function. The feed, the error functions by size and an earlier port have none.
+# plot.awk: the kept summaries of before and now as bars in SVG, a group for each function. The feed, the error functions by size and an
+# earlier port have none.
 /^#/ { next }
-$2 == "ratio" || $2 == "change" || $2 == "earlier" || $2 == "feed" || $2 == "batch" || $1 ~ /^errors/ { next }
+$2 == "ratio" || $2 == "change" || $2 == "earlier" || $2 == "feed" || $2 == "batch" || $1 ~ /^both/ { next }
 {
     bar = $2
     if (FILENAME ~ /before$/) { if ($2 != "port") next; bar = "port before" }

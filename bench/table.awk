@@ -12,7 +12,7 @@
 function label_of(name) {
     return name == "batch" ? "batch of all kinds, a record" : name == "erf_records" ? "batch of erf against a loop, a record" : name
 }
-function range_of(i) { return sizes[i] == "errors" ? "all" : substr(sizes[i], 8) " to " (i < ranges ? substr(sizes[i + 1], 8) : 40) }
+function range_of(name,    ends) { return split(name, ends, ":") == 3 ? ends[2] " to " ends[3] : "all" }
 function show(name, library) { return ((name, library) in number) ? number[name, library] : "" }
 END {
     if (head != "") print head "\n"
@@ -20,7 +20,7 @@ END {
     print "|---|---|---|---|" (others ? "---|---|" : "")
     for (i = 1; i <= count; i++) {
         n = names[i]
-        if ((n, "feed") in number || (n, "both") in number) continue
+        if ((n, "feed") in number || (n, "erf_erfc") in number) continue
         printf "| %s | %s | %s | %s |", label_of(n), show(n, "port"), show(n, "Rust"), ratio[n]
         if (others) printf " %s | %s |", show(n, "glibc"), show(n, "musl")
         print ""
@@ -39,11 +39,16 @@ END {
         pieces = n ~ /4k$/ ? "in pieces of 4,096 bytes" : n ~ /9$/ ? "in pieces of 9 bytes" : "byte by byte"
         printf "| %s %s | %s | %s | %s |\n", records, pieces, show(n, "feed"), show(n, "batch"), ratio[n]
     }
-    for (i = 1; i <= count; i++) if ((names[i], "both") in number) sizes[++ranges] = names[i]
+    for (i = 1; i <= count; i++) if ((names[i], "erf_erfc") in number) sizes[++ranges] = names[i]
     if (ranges) print "\n| a record, by the size | erf | erfc | both | both / erfc |\n|---|---|---|---|---|"
-    for (i = 1; i <= ranges; i++) printf "| %s | %s | %s | %s | %s |\n", range_of(i), show(sizes[i], "erf"), show(sizes[i], "erfc"), show(sizes[i], "both"), ratio[sizes[i]]
+    for (i = 1; i <= ranges; i++) {
+        n = sizes[i]
+        printf "| %s | %s | %s | %s | %s |\n", range_of(n), show(n, "erf"), show(n, "erfc"), show(n, "erf_erfc"), ratio[n]
+    }
     if (before) print "\n| a record, by the size | erf, earlier | erf | erf / earlier | erfc, earlier | erfc | erfc / earlier |\n|---|---|---|---|---|---|---|"
-    for (i = 1; before && i <= ranges; i++)
-        printf "| %s | %s | %s | %s | %s | %s | %s |\n", range_of(i), show(sizes[i], "earlier_erf"), show(sizes[i], "erf"), change[sizes[i], "erf"], \
-            show(sizes[i], "earlier_erfc"), show(sizes[i], "erfc"), change[sizes[i], "erfc"]
+    for (i = 1; before && i <= ranges; i++) {
+        n = sizes[i]
+        printf "| %s | %s | %s | %s |", range_of(n), show(n, "earlier_erf"), show(n, "erf"), change[n, "erf"]
+        printf " %s | %s | %s |\n", show(n, "earlier_erfc"), show(n, "erfc"), change[n, "erfc"]
+    }
 }

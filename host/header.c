@@ -29,7 +29,7 @@ static void kinds(void) {
     check(RVT_VERSION == 10000 * RVT_VERSION_MAJOR + 100 * RVT_VERSION_MINOR + RVT_VERSION_PATCH, "the version");
     check(sizeof(struct rvt_report) == RVT_REPORT_BYTES, "the bytes of a report");
     check(sizeof(struct rvt_feed) == RVT_FEED_BYTES, "the bytes of a feed");
-    check(sizeof(struct rvt_pair) == RVT_PAIR_BYTES, "the bytes of a pair");
+    check(sizeof(struct rvt_erf_pair) == RVT_PAIR_BYTES, "the bytes of a pair");
 }
 
 static void doubles(void) {
@@ -44,15 +44,15 @@ static void doubles(void) {
     check(same(rvt_lgamma_r_f64(-0.5, NULL), rvt_lgamma_r_value(0xBFE0000000000000)), "log-gamma with no sign");
 }
 
-/* Both error functions are those of each, beside every cut, of both signs, and of what is no number; the pair
- * is filled, and nothing round it; and one of another length is left alone. */
+/* Each value of a pair is that of its own function, beside every cut, of both signs, and of what is no number;
+ * the pair is filled, and nothing round it; and one of another length is left alone. */
 static void pairs(void) {
     static const uint64_t at[] = {0, 1, 0x3C6FFFFFFFFFFFFF, 0x3C70000000000000, 0x3E2FFFFFFFFFFFFF, 0x3E30000000000000,
                                   0x3FCFFFFFFFFFFFFF, 0x3FD0000000000000, 0x3FEAFFFFFFFFFFFF, 0x3FEB000000000000,
                                   0x3FF3FFFFFFFFFFFF, 0x3FF4000000000000, 0x4006DB6CFFFFFFFF, 0x4006DB6D00000000,
                                   0x4017FFFFFFFFFFFF, 0x4018000000000000, 0x403BFFFFFFFFFFFF, 0x403C000000000000,
                                   0x7FEFFFFFFFFFFFFF, 0x7FF0000000000000, 0x7FF0000000000001, 0x7FFFFFFFFFFFFFFF};
-    struct rvt_pair both = rvt_erf_erfc_f64(-0.0);
+    struct rvt_erf_pair both = rvt_erf_erfc_f64(-0.0);
     check(same(both.erf, 0x8000000000000000) && same(both.erfc, 0x3FF0000000000000), "erf and erfc of -0 are -0 and 1");
     both = rvt_erf_erfc_f64(-6.0);
     check(same(both.erf, 0xBFF0000000000000) && same(both.erfc, 0x4000000000000000), "erf and erfc of -6 are -1 and 2");
@@ -62,7 +62,7 @@ static void pairs(void) {
             uint8_t bytes[2 + RVT_PAIR_BYTES];
             memset(bytes, 0xA5, sizeof bytes);
             check(rvt_erf_erfc(x, bytes + 1, RVT_PAIR_BYTES) == RVT_DONE, "both by one call");
-            check(rvt_number(bytes + 1) == rvt_erf(x) && rvt_number(bytes + 9) == rvt_erfc(x), "both are those of each");
+            check(rvt_number(bytes + 1) == rvt_erf(x) && rvt_number(bytes + 9) == rvt_erfc(x), "each is that of its own function");
             check(bytes[0] == 0xA5 && bytes[1 + RVT_PAIR_BYTES] == 0xA5, "nothing round the pair");
         }
     for (size_t length = 0; length <= 2 * RVT_PAIR_BYTES; length++) {

@@ -50,9 +50,9 @@ int32_t rvt_lgamma_r_sign(uint64_t x);
 uint64_t rvt_erf(uint64_t x);
 uint64_t rvt_erfc(uint64_t x);
 
-/* Both of one number (with kind 7, from version 1.4 on), for little more than the complement alone: their
- * bits, erf's and then erfc's, as the RVT_PAIR_BYTES bytes of the pair, eight each, the lowest byte first. The
- * result is RVT_DONE, or RVT_OTHER_LENGTH where the pair has another length. */
+/* Both of one number (with kind 7, from version 1.4 on), worked out together: their bits, erf's and then
+ * erfc's, as the RVT_PAIR_BYTES bytes of the pair, eight each, the lowest byte first. The result is
+ * RVT_DONE, or RVT_OTHER_LENGTH where the pair has another length, and then it is not touched. */
 uint64_t rvt_erf_erfc(uint64_t x, uint8_t *pair, size_t pair_length);
 
 /* The same from the bits of an f32 to the bits of an f32. A NaN's answer is 0x7FC00000. The sign that
@@ -98,7 +98,8 @@ enum rvt_kind {
 
 /* The bytes of the longest request, of the longest answer, of a report, of a feed and of a pair. A buffer
  * with room for the longest answer to every request is never too short. Before version 1.4 the longest answer
- * had 10 bytes, and to requests of the other kinds none is longer. */
+ * had 10 bytes, and only kind 7 has a longer one. So a host with room for 10 gets on as before where it sends no
+ * kind 7; one that does had RVT_UNKNOWN before, and has RVT_FULL now, however often it offers the rest again. */
 #define RVT_LONGEST_REQUEST 9
 #define RVT_LONGEST_ANSWER 17
 #define RVT_REPORT_BYTES 24
@@ -276,14 +277,14 @@ static inline float rvt_tgammaf_f32(float x) { return rvt_of_bits_f32(rvt_tgamma
 static inline float rvt_erff_f32(float x) { return rvt_of_bits_f32(rvt_erff(rvt_bits_f32(x))); }
 static inline float rvt_erfcf_f32(float x) { return rvt_of_bits_f32(rvt_erfcf(rvt_bits_f32(x))); }
 
-/* erf and erfc of one number, by one call. */
-struct rvt_pair {
+/* erf and erfc of one number, by one call (from version 1.4 on). */
+struct rvt_erf_pair {
     double erf, erfc;
 };
 
-static inline struct rvt_pair rvt_erf_erfc_f64(double x) {
+static inline struct rvt_erf_pair rvt_erf_erfc_f64(double x) {
     uint8_t bytes[RVT_PAIR_BYTES];
-    struct rvt_pair both;
+    struct rvt_erf_pair both;
     rvt_erf_erfc(rvt_bits_f64(x), bytes, sizeof bytes);
     both.erf = rvt_of_bits_f64(rvt_number(bytes));
     both.erfc = rvt_of_bits_f64(rvt_number(bytes + 8));

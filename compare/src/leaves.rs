@@ -74,7 +74,7 @@ const fn leaf(number: u64, name: &'static str, width: Width) -> Leaf {
     }
 }
 
-pub const LEAVES: [Leaf; 52] = [
+pub const LEAVES: [Leaf; 54] = [
     leaf(1, "fabs", Width::Double),
     leaf(2, "floor", Width::Double),
     leaf(3, "whole", Width::Double),
@@ -123,6 +123,8 @@ pub const LEAVES: [Leaf; 52] = [
     leaf(82, "lgamma_r, value", Width::Double),
     leaf(83, "lgamma_r, sign", Width::Double),
     leaf(84, "tgamma", Width::Double),
+    leaf(85, "erf_erfc, erf", Width::Double),
+    leaf(86, "erf_erfc, erfc", Width::Double),
     leaf(96, "distance", Width::Double),
     leaf(97, "distance, code", Width::Double),
     leaf(98, "distance_f32", Width::Single),
@@ -133,7 +135,7 @@ pub const LEAVES: [Leaf; 52] = [
 /// lgammaf_r is the low half of its answer.
 fn value_width(leaf: u64) -> Option<Width> {
     match leaf {
-        1 | 2 | 9 | 10 | 16..=20 | 64..=71 | 80..=82 | 84 => Some(Width::Double),
+        1 | 2 | 9 | 10 | 16..=20 | 64..=71 | 80..=82 | 84..=86 => Some(Width::Double),
         4 | 33 | 34 | 38..=44 | 48..=51 | 72 | 73 => Some(Width::Single),
         _ => None,
     }
@@ -251,8 +253,8 @@ fn answer_double(leaf: u64, x: f64, b: u64) -> u64 {
         71 => bits_of(libm::pow(x, y)),
         72 => u64::from(bits_of_f32(k_sinf::k_sinf(x))),
         73 => u64::from(bits_of_f32(k_cosf::k_cosf(x))),
-        80 => bits_of(libm::erf(x)),
-        81 => bits_of(libm::erfc(x)),
+        80 | 85 => bits_of(libm::erf(x)),
+        81 | 86 => bits_of(libm::erfc(x)),
         82 => bits_of(libm::lgamma_r(x).0),
         83 => u64::from(libm::lgamma_r(x).1 as u32),
         84 => bits_of(libm::tgamma(x)),

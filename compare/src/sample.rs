@@ -36,7 +36,7 @@ pub fn requests(seed: u64) -> Vec<[u8; 24]> {
         63,
         74,
         79,
-        85,
+        87,
         95,
         100,
         255,
@@ -78,7 +78,9 @@ fn questions(leaf: &Leaf, random: &mut Random) -> Vec<(u64, u64)> {
 /// are what the functions test; the longest Horner sums are the functions' own.
 fn looks_at_cuts(leaf: &Leaf) -> bool {
     match leaf.width {
-        Width::Double => [2, 3, 4, 8, 12, 65, 66, 80, 81, 82, 83, 84].contains(&leaf.number),
+        Width::Double => {
+            [2, 3, 4, 8, 12, 65, 66, 80, 81, 82, 83, 84, 85, 86].contains(&leaf.number)
+        }
         Width::Single => [34, 35, 37, 38, 39, 41, 42, 43, 44, 45].contains(&leaf.number),
     }
 }

@@ -26,7 +26,7 @@ struct Row {
     function: Function,
 }
 
-/// The libm function of a name in kinds.txt.
+/// The libm function of a name in kinds.txt, or the two of erf_erfc.
 fn function(name: &str) -> Option<Function> {
     Some(match name {
         "tgamma" => |b| double(libm::tgamma(f64::from_bits(b))),

@@ -52,7 +52,7 @@ fn a_nan_is_echoed_and_answered_by_one_pattern() {
 
 #[test]
 fn any_other_line_is_bad() {
-    let others: [&[u8]; 20] = [
+    let others: [&[u8]; 21] = [
         b"",
         b" ",
         b"\r",
@@ -71,6 +71,7 @@ fn any_other_line_is_bad() {
         b"erf 3f800000",
         b"erff 3ff0000000000000",
         b"tgammaf 3f800000",
+        b"erf_erfc 3ff0000000000000",
         b"erf 3ff000000000000g",
         b"lgamma_r bff00000000000000",
     ];

@@ -160,7 +160,7 @@ fn instead(question: &Question, content: &[u8], room: usize, trip: &mut Trip) {
     trip.written.truncate(question.room);
 }
 
-const WRONG_TRIPS: [(&str, Altered); 14] = [
+const WRONG_TRIPS: [(&str, Altered); 15] = [
     ("the rest of the buffer is cleared", |q, t| {
         t.written.resize(q.room, 0)
     }),
@@ -212,6 +212,11 @@ const WRONG_TRIPS: [(&str, Altered); 14] = [
     ("room is looked at before the kind", |q, t| {
         if t.code == 1 && t.written.len() == q.room {
             t.code = 3;
+        }
+    }),
+    ("kind 7 has a name", |q, t| {
+        if t.code == 1 && q.content[t.counts[1]] == 7 {
+            t.code = 2;
         }
     }),
     ("kind 18 has a name", |q, t| {

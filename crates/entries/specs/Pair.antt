@@ -12,7 +12,7 @@ use Rattle.digits.specs.Digits.{digits}
 use Rattle.records.specs.Codes.{DONE}
 
 -- a call: its code, and the pair as it leaves it
-pub record Pair : Type 0 where
+pub record Call : Type 0 where
   pub code : ℕ
   pub bytes : List ℕ
 
@@ -20,13 +20,13 @@ pub record Pair : Type 0 where
 unfoldable pub pairOf : ℕ → ℕ → List ℕ
 pairOf erf erfc = digits 8 erf ++ digits 8 erfc
 
-abbrev pub pairS : ℕ → List ℕ → Pair
+abbrev pub pairS : ℕ → List ℕ → Call
 pairS x pair =
     pick (eqb (length pair) 16)
     (record { code = DONE; bytes = pairOf (onBits binary64 erfS x) (onBits binary64 erfcS x) })
     (record { code = 10; bytes = pair })
 
 -- the entry gave this code, and left the pair so
-pub record Given (c : Pair) (r : ℕ) (b : List ℕ) : Type 0 where
+pub record Given (c : Call) (r : ℕ) (b : List ℕ) : Type 0 where
   pub code : r ≡ c .code
   pub bytes : b ≡ c .bytes

@@ -1,4 +1,4 @@
--- erf.rs: its constants and cuts, and erf and erfc by them. erfS and erfcS are what `erf` and `erfc` promise.
+-- erf.rs: its constants and cuts, and erf and erfc by them. erfS and erfcS are what `erf` and `erfc` promise, and the two fields of `erf_erfc`.
 use mathlib.Core.List.{[], _∷_}
 use lib.Ieee.{Float, binary64}
 use Rattle.words.specs.F64.{bits}

@@ -1,4 +1,4 @@
--- What the private functions share that work out erf and erfc together: y. No public promise speaks of it.
+-- y, of which the private functions make erf and erfc. It stands here since their contracts cite it; no public promise does.
 use mathlib.Core.Path.{_≡_}
 use Prim.Native.Nat.{ℕ, _≤_, _<_}
 use lib.Ieee.{Float}

@@ -5,6 +5,7 @@
 // Below 28: erfc(x) = exp(-x^2 - 0.5625 + R/S) / x, R/S in 1/x^2: RA/SA below 1/0.35 (2^-62.57), then RB/SB (2^-61.52). -x^2 is
 // -z^2 + (z - x) (z + x), where z is x with a cleared low word, so that z^2 is exact. erf = 1 - erfc, and from 6 on 1 - 2^-1022.
 // From 28 on erfc is 2^-1022 times itself, or 2 - 2^-1022 for a negative x.
+// Both are made of one y: `small` (R above) below 0.84375, and `erfc2` from there on. Who asks for both pays for it once.
 // A list of coefficients is PP0, PP1, .. of the Rust; QQ, QA, SA and SB begin with their 1.0.
 ghost use mathlib.Core.Path.{_≡_};
 ghost use lib.Ieee.{binary64, neg};
@@ -25,8 +26,7 @@ const ERX: f64 = 8.45062911510467529297e-01; /* 0x3FEB0AC1, 0x60000000 */
 
 const EFX8: f64 = 1.02703333676410069053e+00; /* 0x3FF06EBA, 0x8214DB69 */
 
-// Cuts, as words of a size. Below 0.84375 both are made of `small`, from there on of `erfc2`: of one y, which each needs from one cut on and below
-// another, erf from 2^-28 to 6, erfc from 2^-56 to 28.
+// Cuts, as words of a size. erf needs y from 2^-28 on and below 6, erfc from 2^-56 on and below 28.
 const AT_0_84375: u32 = 0x3feb0000;
 
 const ERF_FROM: u32 = 0x3e300000;
@@ -181,7 +181,7 @@ fn signed(sign: u32, y: f64) -> f64
     if sign != 0 { -y } else { y }
 }
 
-// Both of one number.
+// erf and erfc of one number.
 pub struct Pair {
     pub erf: f64,
     pub erfc: f64,
@@ -189,7 +189,7 @@ pub struct Pair {
 
 // y as far as erf needs it. Elsewhere nobody looks at it, and x serves.
 fn y_of_erf(ix: u32, x: f64) -> f64
-    ensures { λ r. ⌜ Made erf64 0x3E300000 0x40180000 ix x r ⌝ }
+    ensures { λ r. ⌜ Made erf64 (erf64 .at2^-28) (erf64 .at6) ix x r ⌝ }
 {
     if ix < AT_0_84375 {
         if ix < ERF_FROM {
@@ -203,9 +203,9 @@ fn y_of_erf(ix: u32, x: f64) -> f64
     x
 }
 
-// y as far as erfc needs it, which is farther.
+// y as far as erfc needs it, which is farther both ways.
 fn y_of_erfc(ix: u32, x: f64) -> f64
-    ensures { λ r. ⌜ Made erf64 0x3C700000 0x403C0000 ix x r ⌝ }
+    ensures { λ r. ⌜ Made erf64 (erf64 .at2^-56) (erf64 .at28) ix x r ⌝ }
 {
     if ix < AT_0_84375 {
         if ix < ERFC_FROM {
@@ -221,7 +221,7 @@ fn y_of_erfc(ix: u32, x: f64) -> f64
 
 // erf, from y.
 fn erf_of(ix: u32, sign: u32, x: f64, y: f64) -> f64
-    requires { ⌜ (ix ≡ sizeWordS x) × (sign ≡ signS binary64 x) × Made erf64 0x3E300000 0x40180000 ix x y ⌝ }
+    requires { ⌜ (ix ≡ sizeWordS x) × (sign ≡ signS binary64 x) × Made erf64 (erf64 .at2^-28) (erf64 .at6) ix x y ⌝ }
     ensures { λ r. ⌜ r ≡ erfS x ⌝ }
 {
     if ix >= 0x7ff00000 {
@@ -242,7 +242,7 @@ fn erf_of(ix: u32, sign: u32, x: f64, y: f64) -> f64
 
 // erfc, from y.
 fn erfc_of(ix: u32, sign: u32, x: f64, y: f64) -> f64
-    requires { ⌜ (ix ≡ sizeWordS x) × (sign ≡ signS binary64 x) × Made erf64 0x3C700000 0x403C0000 ix x y ⌝ }
+    requires { ⌜ (ix ≡ sizeWordS x) × (sign ≡ signS binary64 x) × Made erf64 (erf64 .at2^-56) (erf64 .at28) ix x y ⌝ }
     ensures { λ r. ⌜ r ≡ erfcS x ⌝ }
 {
     if ix >= 0x7ff00000 {
@@ -286,7 +286,7 @@ pub fn erf_erfc(x: f64) -> Pair
     }
 }
 
-// The pair's field alone, with no more of y than it needs.
+// erf alone, with no more of y than it needs.
 pub fn erf(x: f64) -> f64
     ensures { λ r. ⌜ r ≡ erfS x ⌝ }
 {
@@ -297,7 +297,7 @@ pub fn erf(x: f64) -> f64
     erf_of(ix, sign(x), x, y_of_erf(ix, x))
 }
 
-// The pair's other field alone.
+// erfc alone.
 pub fn erfc(x: f64) -> f64
     ensures { λ r. ⌜ r ≡ erfcS x ⌝ }
 {

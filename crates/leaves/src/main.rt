@@ -19,6 +19,7 @@
 // 70 sqrt          72 k_sinf
 // 71 pow(a, b)     73 k_cosf
 // 80 erf           81 erfc
+// 85 erf_erfc's erf  86 erf_erfc's erfc
 // 82 lgamma_r's value  83 lgamma_r's sign
 // 84 tgamma
 // 96 distance(a, b), and 97 its code; 98 distance_f32(a, b), and 99 its code
@@ -29,6 +30,7 @@ use digits::put;
 use distance::distance;
 use distance::distance_f32;
 use erf::erf;
+use erf::erf_erfc;
 use erf::erfc;
 use erff::erfcf;
 use erff::erff;
@@ -251,6 +253,8 @@ fn error_leaf(leaf: u64, x: f64) -> u64 {
     match leaf {
         80 => bits_of(erf(x)),
         81 => bits_of(erfc(x)),
+        85 => bits_of(erf_erfc(x).erf),
+        86 => bits_of(erf_erfc(x).erfc),
         _ => UNKNOWN,
     }
 }
@@ -321,8 +325,11 @@ fn answer(leaf: u64, a: u64, b: u64) -> u64 {
     if leaf < 82 {
         return error_leaf(leaf, of_bits(a));
     }
-    if leaf < 96 {
+    if leaf < 85 {
         return gamma_leaf(leaf, of_bits(a));
+    }
+    if leaf < 96 {
+        return error_leaf(leaf, of_bits(a));
     }
     distance_leaf(leaf, a, b)
 }

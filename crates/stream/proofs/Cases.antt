@@ -1,5 +1,5 @@
--- The counts of batches on one record of erf, of both error functions or of tgammaf, on the start of one, on an unknown kind and on nothing, by computation: they look at no value.
--- Assumes nothing.
+-- The counts of batches on one record of erf, of both error functions or of tgammaf, on the start of one, on an unknown kind and on nothing, by
+-- computation: they look at no value. Assumes nothing.
 use mathlib.Core.Path.{_≡_, refl}
 use mathlib.Core.List.{List, [], _∷_}
 use Prim.Native.Nat.{ℕ}
