@@ -181,7 +181,7 @@ static uint64_t word(const uint8_t *bytes, size_t width) {
     return x;
 }
 
-/* The records are told apart by their kinds. What is shown of an answer is its first value. */
+/* The records are told apart by their kinds. What is shown of an answer is its first value, or its second where that alone differs. */
 static void same_bytes(const struct pair *p, int side) {
     const char *ours = sides(p)[0], *other = sides(p)[side];
     if (memcmp(answers[0], answers[side], sizeof answers[0]) == 0) return;
@@ -189,8 +189,9 @@ static void same_bytes(const struct pair *p, int side) {
         const struct kind *k = kind_numbered(requests[read]);
         const uint8_t *one = answers[0] + at, *two = answers[side] + at;
         size_t length = 1 + k->values + k->tail;
+        size_t shown = k->values > k->body && memcmp(one, two, 1 + k->body) == 0 ? 1 + k->body : 1;
         if (memcmp(one, two, length) != 0)
-            differs(p->name, k->name, word(requests + read + 1, k->body), ours, word(one + 1, k->body), other, word(two + 1, k->body));
+            differs(p->name, k->name, word(requests + read + 1, k->body), ours, word(one + shown, k->body), other, word(two + shown, k->body));
         read += 1 + k->body;
         at += length;
     }

@@ -148,6 +148,13 @@ turns-pushes f t w s (l ∷ ls) g h b n k =
       size = rest .size;
     }))
 
+-- what may be lent: nothing; and a buffer before others, where it has room for the longest answer and a length of 64 bits
+pub lends-none : Lendable []
+lends-none = tt
+
+pub lends : (l : Lent) (ls : List Lent) → longestAnswer ≤ length (l .buffer) → length (l .buffer) < 256 ^ 8 → Lendable ls → Lendable (l ∷ ls)
+lends l ls room short rest = ((room, short), rest)
+
 roomy : (ls : List Lent) → Lendable ls → Roomy longestAnswer (map offer ls)
 roomy [] k = tt
 roomy (l ∷ ls) k = (k .0 .0, roomy ls (k .1))

@@ -126,6 +126,11 @@ reply-light k b = omega (arith, reply-length k b, row-width k, answer-light k)
 pub reply-longest : (k b : ℕ) → length (bytesOf (rowIn table k .reply b)) ≤ longestAnswer
 reply-longest k b = omega (arith, reply-length k b, answer-longest k)
 
+-- the values of kind 7 are that of kind 3 and that of kind 4
+pub both-are-each : (b : ℕ) → (replyS 7 b .bits ≡ replyS 3 b .bits) × (replyS 7 b .extra ≡ replyS 4 b .bits)
+unfolding table meanings rowIn shapes shapeIn
+both-are-each b = (refl, refl)
+
 pub width-small : (k : ℕ) → rowIn table k .width ≤ 8
 width-small k = omega (arith, row-width k, body-small k)
 
