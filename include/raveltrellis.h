@@ -108,7 +108,8 @@ enum rvt_kind {
 
 /* The codes that a call ends with. */
 enum rvt_stop {
-    RVT_DONE = 0,         /* the requests, or the piece, are used up; of a distance, both floats are numbers */
+    RVT_DONE = 0,         /* the requests, or the piece, are used up; the pair is written; of a distance, both floats are
+                           * numbers */
     RVT_UNKNOWN = 1,      /* the kind at the front is not in the table */
     RVT_CUT = 2,          /* the kind is known, and its body is incomplete */
     RVT_FULL = 3,         /* the record is whole, and its answer is longer than the room left */
