@@ -1,6 +1,8 @@
 // The functions by bits: the argument's in, the value's out, with one pattern for a NaN. Whoever has bytes or patterns calls these, and no
 // crate above makes a float of bits. A NaN leaves by its pattern, before there is a float: the function's first tests, which are of the pattern
 // of x, are then tests of the argument itself, and need not wait until it has gone through a float and back.
+#![tactic(auto)]
+
 ghost use Rattle.std.specs.Prelude.{◌≡◌, ◌%◌, ◌^◌};
 ghost use Rattle.std.specs.Float.{binary32, binary64};
 ghost use Rattle.words.specs.Tests.{◌>?◌};

@@ -1,6 +1,8 @@
 // The program `lines`: reads a text on standard input, and writes the reply to each of its lines on standard output as soon as the line is
 // complete. Memory is two buffers, however long a line is. A reply takes at most four times the bytes of its line and newline, so the replies
 // to a full buffer have room.
+#![tactic(auto)]
+
 mod port;
 mod relay;
 

@@ -1,5 +1,7 @@
 // What the programs decide: what comes after a turn, which bytes close the output of `answers`, what it gives back, and what is the end of
 // the input. Nothing here reads or writes.
+#![tactic(auto)]
+
 ghost use Rattle.std.specs.Prelude.{◌≡◌, [], ◌∷◌, length};
 ghost use Rattle.decide.specs.Decide.{after_s, closing_s, end_s, at_end_s};
 

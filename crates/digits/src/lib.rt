@@ -1,6 +1,8 @@
 // Numbers as bytes, the lowest first. `get` and `put` answer for every place and width: a byte that is not there counts as 0 where it is
 // read, and is left out where it is written. Both name the width 8, so that the compiler makes one load or store of the loop. Naming another
 // width too would split it, since the compiler then shares the loads of both.
+#![tactic(auto)]
+
 ghost use Rattle.std.specs.Prelude.{◌≡◌, ◌+◌, ◌≤◌, length, take, drop};
 ghost use Rattle.std.proofs.lemmas.List.Edits.{sets};
 ghost use Rattle.digits.specs.Digits.{word, digits};

@@ -2,6 +2,8 @@
 // once writes both into bytes that the host lends. Each batch entry does the whole batch on the buffers that it is given, and gives one of
 // the four numbers that the batch reports. A feed is bytes that the host keeps. A distance takes the bits of two floats, and so does its
 // code. The header is include/raveltrellis.h.
+#![tactic(auto)]
+
 mod apart;
 mod feed_bytes;
 mod pair;

@@ -7,6 +7,8 @@
 // From 28 on erfc is 2^-1022 times itself, or 2 - 2^-1022 for a negative x.
 // Both are made of one y: `small` (R above) below 0.84375, and `erfc2` from there on. Who asks for both pays for it once.
 // A list of coefficients is PP0, PP1, .. of the Rust; QQ, QA, SA and SB begin with their 1.0.
+#![tactic(auto)]
+
 ghost use Rattle.std.specs.Prelude.{◌≡◌};
 ghost use Rattle.std.specs.Float.{binary64};
 ghost use Rattle.std.specs.Float.Ieee.{neg};

@@ -1,6 +1,8 @@
 // erff and erfcf: the course of erf and erfc in f32, with the same regions; the coefficients are erf's, rounded to f32. z loses 13 bits, and the
 // tiny number is 2^-120.
 // A list of coefficients is PP0, PP1, .. of the Rust; QQ, QA, SA and SB begin with their 1.0.
+#![tactic(auto)]
+
 ghost use Rattle.std.specs.Prelude.{◌≡◌};
 ghost use Rattle.std.specs.Float.Ieee.{neg};
 ghost use Rattle.words.specs.Pick.{if◌then◌else◌};

@@ -3,6 +3,8 @@
 // makes e^r = 1 + (r c / (2 - c) - lo + hi), and scalbn multiplies by 2^k. msun's analysis gives less than one unit in the last place.
 // Regions by hx, the high word of |x|: from 708.39 on NaN, overflow above 709.78, +0 below -745.13; from 1.5 ln2 on k is the whole number
 // nearest to x / ln2; above 0.5 ln2 it is 1 or -1, above 2^-28 it is 0; up to there 1 + x. In f32: module `single`.
+#![tactic(auto)]
+
 pub mod single;
 
 ghost use Rattle.std.specs.Prelude.{◌≡◌};

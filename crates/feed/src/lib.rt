@@ -1,5 +1,7 @@
 // A feed: it takes the request stream in pieces of any size, and answers each record as soon as its last byte is there. It is carried by value
 // from call to call, and holds at most the start of one record.
+#![tactic(auto)]
+
 ghost use Rattle.std.specs.Prelude.{◌+◌, ◌%◌, ◌≤◌, ◌<◌, ◌≡◌, [], ◌++◌, length, take, drop};
 ghost use Rattle.digits.specs.Digits.{digits};
 ghost use Rattle.records.specs.Row.{row_in};

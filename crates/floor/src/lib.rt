@@ -1,5 +1,7 @@
 // floor, floorf: the greatest whole number that is at most x. An f64 has at most 53 binary digits, an f32 24; the more of them stand before the
 // point, the fewer are left for a fraction. That makes three cases, by the size of x.
+#![tactic(auto)]
+
 ghost use Rattle.std.specs.Prelude.{◌≡◌};
 ghost use Rattle.std.specs.Float.{binary32, binary64};
 ghost use Rattle.floor.specs.Floor.{floor_s};

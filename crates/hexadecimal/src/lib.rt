@@ -1,4 +1,6 @@
 // Numbers in lower-case hex, the highest digit first: read from a text, and written into one.
+#![tactic(auto)]
+
 ghost use Rattle.std.specs.Prelude.{◌≡◌, ◌<◌, ◌^◌, ◌/◌, ◌%◌};
 ghost use Rattle.std.proofs.lemmas.List.Edits.{sets};
 ghost use Rattle.hexadecimal.specs.Hex.{char_of, digit_of, hex, number_s};

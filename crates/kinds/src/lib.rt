@@ -1,5 +1,7 @@
 // The kinds of requests, by their shapes alone: no function is named here, and no float, so that whatever cuts a stream into records can
 // stand on it.
+#![tactic(auto)]
+
 ghost use Rattle.std.specs.Prelude.{◌≡◌, ◌*◌, ◌/◌, ◌%◌, ◌^◌, ◌<◌};
 ghost use Rattle.kinds.specs.Shape.{sign_byte};
 ghost use Rattle.kinds.specs.Kinds.{shape_of};

@@ -25,6 +25,8 @@
 // 96 distance(a, b), and 97 its code; 98 distance_f32(a, b), and 99 its code
 //
 // An argument or an answer of 32 bits is the low half of its u64, and an i32 is its two's complement.
+#![tactic(auto)]
+
 ghost use Rattle.std.specs.Prelude.{◌+◌, ◌*◌, ◌≤◌, length};
 
 use digits::{get, put};

@@ -2,6 +2,8 @@
 // Below 2^-70 in size: -log|x|. A negative x: -x Gamma(-x) Gamma(x) = pi / sin(pi x), so the value is log(pi / |x sin(pi x)|) less that of -x,
 // and the sign is the sine's; where it is 0, at the whole numbers, the answer is +inf with the sign 1. 1 and 2 give +0.
 // Below 2: module `below2`. Below 8, below 2^58 and from there on: module `from2` and `size`.
+#![tactic(auto)]
+
 pub mod below2;
 pub mod from2;
 

@@ -1,5 +1,7 @@
 // lgammaf_r: the logarithm of the size of the gamma function, and the gamma function's sign, in f32. The course is lgamma_r's, with the same
 // regions but -log|x| below 2^-21; the coefficients are lgamma_r's, rounded to f32, but for TF and its tail TT.
+#![tactic(auto)]
+
 pub mod below2;
 pub mod from2;
 

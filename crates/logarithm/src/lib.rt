@@ -3,6 +3,8 @@
 // even and its odd coefficients are summed apart. 2 s is f - hfsq + s hfsq with hfsq = f^2 / 2, and ln2 is LN2_HI + LN2_LO, so that
 // log(x) = s (hfsq + R) + k LN2_LO - hfsq + f + k LN2_HI, from the small terms on. msun's analysis gives less than one unit in the last place.
 // Regions: +-0 gives -inf, below 0 NaN; a subnormal number is scaled up by 2^54; infinity and NaN stay; 1 gives +0. In f32: module `single`.
+#![tactic(auto)]
+
 pub mod single;
 
 ghost use Rattle.std.specs.Prelude.{◌^◌, ◌<◌, ◌≡◌, pos, nat_abs, ◌+ℤ◌, ◌-ℤ◌};

@@ -1,4 +1,6 @@
 // Horner's rule over a slice of coefficients, in f64 and in f32.
+#![tactic(auto)]
+
 ghost use Rattle.std.specs.Prelude.{◌≡◌};
 ghost use Rattle.std.specs.Float.{binary32, binary64};
 ghost use Rattle.poly.specs.Horner.{horner_s};

@@ -2,6 +2,8 @@
 // (pow_exp). msun calls the answer nearly rounded. Here are the special cases, in the Rust's order: y = 0 and x = 1 give 1; a NaN; y infinite,
 // +-1, 2 or 0.5; x = +-0, +-inf or +-1; x < 0, where a y that is no whole number gives NaN and an odd one a minus sign; |y| beyond 2^31, where
 // all but an x close to 1 overflows or vanishes.
+#![tactic(auto)]
+
 ghost use Rattle.std.specs.Prelude.{◌≡◌, true, not, ◌&&◌, ◌||◌, ◌%◌, ◌^◌, ◌<◌, Float};
 ghost use Rattle.words.specs.F64.{1·0, -1·0};
 ghost use Rattle.words.specs.Pick.{if◌then◌else◌};

@@ -2,6 +2,8 @@
 // p_h = y1 t1 is exact; p_l is the rest, and z their sum. 2^z overflows from 1024 on and vanishes from -1075 down; at these two p_l decides.
 // Between, n is the whole number nearest to z, 2^(z - n) is e^((z - n) ln2) by exp's polynomial with ln2 in two parts, and n goes into the
 // exponent's field, or by scalbn where the answer is subnormal.
+#![tactic(auto)]
+
 ghost use Rattle.std.specs.Prelude.{◌≡◌, ◌%◌, ◌^◌, ◌≤◌};
 ghost use Rattle.pow_exp.specs.Exp2.{word, fraction_s, scaled_s, exp2_s, large_s, small_s, bounded_s, product_s};
 

@@ -3,6 +3,8 @@
 // Approximation: with ss = (ax - bp) / (ax + bp), log(ax / bp) = 2 (ss + ss^3/3 + ..), by L1 to L6 in ss^2; CP = 2 / (3 ln2) brings it to base
 // 2, and DP = log2(bp) and n are added. Each value is a high part with a cleared low word and a low part, so that products of two high parts
 // are exact. For a huge y and |1 - x| up to 2^-20 near_one has log(1 + t) = t - t^2/2 + t^3/3 - t^4/4.
+#![tactic(auto)]
+
 ghost use Rattle.std.specs.Prelude.{◌≡◌, ℕ, ◌≤◌, pos, ◌-ℤ◌, Float};
 ghost use Rattle.words.specs.Pick.{if◌then◌else◌};
 ghost use Rattle.words.specs.Tests.{◌=?◌};

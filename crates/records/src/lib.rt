@@ -1,5 +1,7 @@
 // Requests and answers as records, over any table of kinds: a reply and its bytes, and what a run of records reports. There is no float here: a
 // kind is a width and a reply. What a run does with a table is defined in specs/, and its laws are in proofs/.
+#![tactic(auto)]
+
 ghost use Rattle.std.specs.Prelude.{◌≡◌};
 ghost use Rattle.std.proofs.lemmas.List.Edits.{sets};
 ghost use Rattle.records.specs.Reply.{bytes_of};

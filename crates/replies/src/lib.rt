@@ -1,5 +1,7 @@
 // The reply to a kind and the number that its body makes: the only place that joins the shapes of the kinds with the functions by bits. A
 // kind has a function of its own here, whose contract is the kind's row, and an arm of `reply_to`.
+#![tactic(auto)]
+
 ghost use Rattle.std.specs.Prelude.{◌≡◌, ◌%◌, ◌^◌};
 ghost use Rattle.kinds.specs.Shape.{sign_byte};
 ghost use Rattle.replies.specs.Table.{reply_s};

@@ -1,1 +1,2 @@
 // The laws of rounded arithmetic are in proofs/; nothing here runs.
+#![tactic(auto)]

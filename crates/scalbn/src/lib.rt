@@ -1,6 +1,8 @@
 // scalbn: x times 2^n, for every n. Where 2^n is no normal number n is taken in steps: above, x is first multiplied by 2^1023, once or twice;
 // below, by 2^(-1022 + 53), once or twice. Then n is still below -53, so that a product which was rounded there vanishes in the last one, and
 // nothing is rounded twice. What is left of n is cut to the exponents of the normal numbers. In f32: module `single`.
+#![tactic(auto)]
+
 pub mod single;
 
 ghost use Rattle.std.specs.Prelude.{◌≡◌, true, false, ℤ, pos, negsuc};

@@ -1,5 +1,7 @@
 // The program `answers`: reads a request stream on standard input, and writes the answers, then byte 255 and the stop code, on standard
 // output. Memory is two buffers. An answer takes at most twice the bytes of its request, so the answers to a full buffer have room.
+#![tactic(auto)]
+
 mod port;
 mod relay;
 

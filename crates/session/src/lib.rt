@@ -1,5 +1,7 @@
 // What a program that reads and writes in turns does over all that the outside does, for any program of that form (specs/, proofs/), and the
 // move of what it carries over.
+#![tactic(auto)]
+
 ghost use Rattle.std.specs.Prelude.{◌≡◌, take, drop};
 ghost use Rattle.std.proofs.lemmas.List.Edits.{sets};
 

@@ -1,6 +1,8 @@
 // sin(pi x) for x > 0, the Rust's sinpi in tgamma.rs and sin_pi in lgamma_r.rs. Reduction: x mod 2, then the n for which n/2 is nearest to it, so
 // that x - n/2 lies from -1/4 to 1/4; from 2^-70 on both are exact (proofs/Exactness). Only that is multiplied by PI, and goes to a kernel with
 // the sign that n asks for: 0 sin, 1 cos, 2 -sin (as sin of the negative), 3 -cos, 4 sin. In f32: module `single`.
+#![tactic(auto)]
+
 pub mod single;
 
 ghost use Rattle.std.specs.Prelude.{◌≡◌};

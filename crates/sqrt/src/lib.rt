@@ -1,6 +1,8 @@
 // sqrt: the square root, rounded once, in u64. A positive x is a 2^52 times a power of 4, a of 53 or 54 binary digits; the root of a 2^52 is found
 // digit by digit from the top, 53 of them, and what is over its square says which whole number is nearest. -0, +0, +inf and NaN stay, and what
 // is below 0 gives NaN.
+#![tactic(auto)]
+
 ghost use Rattle.std.specs.Prelude.{◌≡◌, false, ◌+◌, ◌*◌, ◌^◌, ◌<◌, ◌≤◌};
 ghost use Rattle.std.specs.Float.{binary64};
 ghost use Rattle.std.specs.Float.Ieee.{of_bits};

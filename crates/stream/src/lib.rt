@@ -1,4 +1,6 @@
 // The request stream: a byte of kind and the argument's bits in, the answer's kind and the value's bits out, record by record.
+#![tactic(auto)]
+
 ghost use Rattle.std.specs.Prelude.{◌+◌, ◌-◌, ◌≤◌, ◌<◌, ◌^◌, ◌≡◌, length, drop};
 ghost use Rattle.replies.specs.Table.{table};
 ghost use Rattle.records.specs.Tally.{◌⊞◌};

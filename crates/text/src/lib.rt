@@ -1,4 +1,6 @@
 // Requests as text. A line is a function's name as in the Rust, a space and the argument's bits in hex; here it is without its newline.
+#![tactic(auto)]
+
 mod names;
 mod trip;
 

@@ -4,6 +4,8 @@
 // so that no factor overflows where the answer does not. For x < 0, Gamma(x) Gamma(-x) = -pi / (x sin(pi x)).
 // Regions in the order tested: not finite; below 2^-54 in size 1/x; whole numbers: NaN below 0, up to 23 by a table; from 184 on in size overflow,
 // or +-0 below 0 by the parity of floor(x); the formula.
+#![tactic(auto)]
+
 pub mod lanczos;
 
 ghost use Rattle.std.specs.Prelude.{◌≡◌, true, ◌≤◌, get_or};

@@ -1,4 +1,6 @@
 // tgammaf: the gamma function in f32, as tgammaf.rs has it: tgamma of the same number in f64, rounded once.
+#![tactic(auto)]
+
 ghost use Rattle.std.specs.Prelude.{◌≡◌};
 ghost use Rattle.tgammaf.specs.Tgammaf.{tgammaf_s};
 

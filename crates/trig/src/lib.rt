@@ -2,6 +2,8 @@
 // Approximation: sin(x) = x + S1 x^3 + .. + S6 x^13 and cos(x) = 1 - x^2/2 + C1 x^4 + .. + C6 x^14, with errors that msun gives as 2^-58 (of the
 // sine over x). The tail enters as (1 - x^2/2) y in the sine and as -x y in the cosine. In the cosine w = 1 - x^2/2 is rounded, and what that
 // lost, (1 - w) - x^2/2, is added back. In f32: module `single`.
+#![tactic(auto)]
+
 pub mod single;
 
 ghost use Rattle.std.specs.Prelude.{◌≡◌};

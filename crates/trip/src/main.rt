@@ -1,6 +1,8 @@
 // Text to the request stream and back, for the comparison. A question is a byte, 0 for text to requests and 1 for requests to text; two bytes
 // of room and two of a length, at most 4,096 each, the lowest first; and so many bytes. Its answer is the code, three counts of two bytes
 // (records, read, written), and the whole answer buffer, of so many bytes as there was room, each 170 before. Any other question ends it.
+#![tactic(auto)]
+
 use digits::{get, put};
 use libc::{STDIN_FILENO, STDOUT_FILENO};
 use records::Report;

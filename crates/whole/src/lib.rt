@@ -1,5 +1,7 @@
 // The whole part, the Rust's `as i32`, which is 0 here from size 2^31 on, and whether x has a fraction, which is right at every size. Both are
 // worked out from the fields of the bits.
+#![tactic(auto)]
+
 ghost use Rattle.std.specs.Prelude.{◌≡◌, not, ◌/◌, ◌%◌, ◌^◌, ◌<◌, eqb};
 ghost use Rattle.whole.specs.Whole.{small, whole_s, has_fraction_s};
 

@@ -1,0 +1,6 @@
+-- `poly::horner` ends because the list gets shorter.
+use Rattle.std.proofs.Common.{length}
+use Rattle.poly.proofs.+horner.Given as goal
+
+abbrev pub decreases-horner : goal.decreases-horner
+decreases-horner l = length l.c.now

@@ -1,0 +1,14 @@
+-- `poly::hornerf` meets its contract at each return. Assumes nothing.
+use lib.Ieee.{binary32}
+use borrow.Author.Rules.{rules}
+use Rattle.poly.proofs.HornerLaws as laws
+use Rattle.poly.proofs.+hornerf.Goals as goal
+
+pub returns-then-n-eq0 : goal.returns-then-n-eq0
+returns-then-n-eq0 t c = laws.none binary32 _ _ c.if-n-eq0.true
+
+pub returns-then-n-eq1 : goal.returns-then-n-eq1
+returns-then-n-eq1 t c = laws.one binary32 _ _ c.if-n-eq1.true
+
+pub returns : goal.returns
+returns t c = laws.more binary32 _ _ _ (search rules) c.hornerf.ensures

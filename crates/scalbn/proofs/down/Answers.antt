@@ -1,0 +1,39 @@
+use lib.Ieee.{binary64}
+use borrow.Author.Rules.{rules}
+use Rattle.scalbn.proofs.ScalbnCode as code
+use Rattle.scalbn.proofs.down.Goals as goal
+
+pub overflow_add-n1 : goal.overflow_add-n1
+overflow_add-n1 c =
+    let s = c in
+    code.down1_fits binary64 s.args.n s.ranges.n s.requires
+
+pub overflow_add-n2 : goal.overflow_add-n2
+overflow_add-n2 c =
+    let s = c in
+    code.down2-fits binary64 s.args.n s.ranges.n s.requires c.if-n1-lt-EXP_MIN.true
+
+pub returns-then-n2-lt-EXP_MIN : goal.returns-then-n2-lt-EXP_MIN
+returns-then-n2-lt-EXP_MIN c =
+    let s = c in
+    cc (code.down-thrice binary64 s.args.n s.ranges.n s.requires c.if-n1-lt-EXP_MIN.true s.args.x c.if-n2-lt-EXP_MIN.true)
+
+pub power-requires-then-n1-lt-EXP_MIN : goal.power-requires-then-n1-lt-EXP_MIN
+power-requires-then-n1-lt-EXP_MIN c =
+    let s = c in
+    code.down2-normal binary64 s.args.n s.ranges.n s.requires c.if-n1-lt-EXP_MIN.true c.if-n2-lt-EXP_MIN.false
+
+pub returns-then-n1-lt-EXP_MIN : goal.returns-then-n1-lt-EXP_MIN
+returns-then-n1-lt-EXP_MIN c =
+    let s = c in
+    cc (code.down-twice binary64 s.args.n s.ranges.n s.requires c.if-n1-lt-EXP_MIN.true s.args.x c.if-n2-lt-EXP_MIN.false)
+
+pub power-requires-3 : goal.power-requires-3
+power-requires-3 c =
+    let s = c in
+    code.down1_normal binary64 s.args.n s.ranges.n s.requires c.if-n1-lt-EXP_MIN.false
+
+pub returns : goal.returns
+returns c =
+    let s = c in
+    cc (code.down_once binary64 s.args.n s.ranges.n s.requires s.args.x c.if-n1-lt-EXP_MIN.false)

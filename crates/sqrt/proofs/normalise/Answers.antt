@@ -1,0 +1,40 @@
+-- `sqrt::normalise` meets its contract. Assumes nothing.
+use mathlib.Core.Path.{◌≡◌, sym, subst}
+use mathlib.Core.Bool.{false}
+use Prim.Native.Nat.{ℕ, ◌-◌, ◌*◌, ◌%◌, ◌^◌}
+use native.Mathlib.Nat.{mod-eq_of_lt}
+use native.Mathlib.Omega.{arith}
+use lib.Count.{count_leading_zeros}
+use lib.Ieee.{binary64, of_bits}
+use lib.Ieee.Exact.{HasValue}
+use borrow.Author.Rules.{rules}
+use Rattle.sqrt.proofs.Scaled.{moved, subnormal_value, normal_value}
+use Rattle.sqrt.proofs.normalise.Goals as goal
+
+pub overflow_sub-up : goal.overflow_sub-up
+overflow_sub-up c = let t = moved c.args.ix (omega arith) (omega arith) in omega arith
+
+pub overflow_cast-result : goal.overflow_cast-result
+overflow_cast-result c = let t = moved c.args.ix (omega arith) (omega arith) in omega arith
+
+pub overflow_shl-result : goal.overflow_shl-result
+overflow_shl-result c = let t = moved c.args.ix (omega arith) (omega arith) in omega arith
+
+pub overflow_sub-result : goal.overflow_sub-result
+overflow_sub-result c = let t = moved c.args.ix (omega arith) (omega arith) in omega arith
+
+pub returns-then-e-eq0 : goal.returns-then-e-eq0
+returns-then-e-eq0 c =
+    let b = c.args.ix in
+    let t = moved b (omega arith) (omega arith) in
+    let l = count_leading_zeros 64 b - 11 in
+    let e : b * 2 ^ l % 2 ^ 64 ≡ b * 2 ^ l = mod-eq_of_lt (omega arith) in (
+      subst (λ (m : ℕ). HasValue (of_bits binary64 b) false (m * 2 ^ (1024 - l)) (2 ^ 2098)) (sym e) (subnormal_value b l (omega arith) (omega arith)),
+      (rw e t.from, rw e t.upto, omega arith, omega arith),
+    )
+
+pub returns : goal.returns
+returns c = (
+  normal_value c.args.ix (omega arith) (omega arith),
+  (omega arith, omega arith, omega arith, omega arith),
+)
