@@ -11,8 +11,7 @@ use lib.Seq.{length-take-le, take-append-add, take-append-le}
 use mir.Syntax.{w64}
 use mir.Val.{to_z, of_z, SFits}
 use mir.ValLaws.{to_z-of_z}
-use Rattle.io.specs.Counts.{clamp_len}
-use Rattle.libc.specs.Io.{Moved}
+use Rattle.session.specs.Moved.{Moved, clamp_len}
 use Rattle.decide.specs.Decide.{after_s}
 use Rattle.decide.specs.declared.Next.{Next}
 use Rattle.session.specs.Session.{Heard, brought, failed, returned, piece, Program}

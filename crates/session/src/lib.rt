@@ -2,6 +2,8 @@
 // move of what it carries over.
 #![tactic(auto)]
 
+pub mod port;
+
 ghost use Rattle.std.specs.Prelude.{◌≡◌, take, drop};
 ghost use Rattle.std.proofs.lemmas.List.Edits.{sets};
 

@@ -1,0 +1,59 @@
+// The calls out of a program: reads and writes, over any reader and any writer. No contract can say what the system gives and takes: these say
+// how many bytes a read may bring, and what a writer that knows its bytes holds once all were taken.
+ghost use Rattle.std.specs.Prelude.{◌≡◌, ◌≤◌, length, OnTrue};
+ghost use Rattle.std.specs.Io.{Appends};
+ghost use Rattle.session.specs.Moved.{Moved, IsPrefixLen, clamp_len};
+
+use std::io::{Read, Write};
+
+// Reads once: how many bytes it brought, or -1 where it failed.
+pub fn read<R: Read>(input: &mut R, room: &mut [u8]) -> isize
+    ensures { Moved (length room.new) result }
+{
+    match input.read(room) {
+        Ok(n) => n as isize,
+        Err(_) => -1,
+    }
+}
+
+// What a read answered, as a number of bytes of buf: 0 where it failed.
+pub fn count(got: isize, buf: &[u8]) -> usize
+    ensures in_bounds { IsPrefixLen result buf.now }
+    ensures value { result ≡ clamp_len got (length buf.now) }
+{
+    if got <= 0 {
+        return 0;
+    }
+    let n = got as usize;
+    if n < buf.len() { n } else { buf.len() }
+}
+
+// Writes all bytes, and says whether they were taken.
+pub fn write_all<W: Write>(output: &mut W, bytes: &[u8]) -> bool
+    ensures { OnTrue result (Appends (W.contents output.old) (W.contents output.new) bytes.now) }
+{
+    output.write_all(bytes).is_ok()
+}
+
+// Reads until the room is full, the input ends or a read fails, and says how many bytes there are.
+pub fn read_full<R: Read>(input: &mut R, room: &mut [u8]) -> usize
+    ensures { IsPrefixLen result room.new }
+{
+    let mut done = 0;
+    while done < room.len() {
+        let got = read(input, &mut room[done..]);
+        let n = count(got, &room[done..]);
+        if n == 0 {
+            return done;
+        }
+        done = done + n;
+    }
+    done
+}
+
+// 65,536 zeros, of which a caller knows how many there are.
+pub fn large_buffer() -> [u8; 65536]
+    ensures { 65536 ≡ length result }
+{
+    [0; 65536]
+}
