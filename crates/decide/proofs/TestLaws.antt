@@ -1,6 +1,6 @@
 -- What comes after a turn, from the tests as the code makes them. Assumes nothing.
 use mathlib.Core.Path.{◌≡◌, refl, sym, ap, ◌∙◌}
-use mathlib.Core.Bool.{Bool, true, false, not}
+use mathlib.Core.Bool.{Bool, true, false}
 use Prim.Native.Nat.{ℕ}
 use native.Mathlib.Omega.{arith}
 use borrow.Author.Tests.{ltb-true, eq-eqb, ne_eqb}
@@ -26,30 +26,30 @@ module _ (code kept : ℕ) where
   read_failed (pos n) sent e = let h = ltb-true n 0 e in absurd (omega arith)
   read_failed (negsuc n) sent e = refl
 
-  pub write_failed : (got : ℤ) (sent : Bool) → not sent ≡ true → Break ≡ after_s got code kept sent
+  pub write_failed : (got : ℤ) (sent : Bool) → sent ≡ false → Break ≡ after_s got code kept sent
   unfolding after_s
-  write_failed (pos n) true e = apart (sym e)
+  write_failed (pos n) true e = apart e
   write_failed (pos n) false e = refl
   write_failed (negsuc n) sent e = refl
 
-  pub unknown : (got : ℤ) (sent : Bool) → lt_z got (pos 0) ≡ false → not sent ≡ false → code ≡ 1 → Close 1 ≡ after_s got code kept sent
+  pub unknown : (got : ℤ) (sent : Bool) → lt_z got (pos 0) ≡ false → sent ≡ true → code ≡ 1 → Close 1 ≡ after_s got code kept sent
   unfolding after_s
   unknown (pos n) true e s h = rw (eq-eqb code 1 h)
-  unknown (pos n) false e s h = apart s
+  unknown (pos n) false e s h = apart (sym s)
   unknown (negsuc n) sent e s h = apart e
 
-  pub ended : (got : ℤ) (sent : Bool) → lt_z got (pos 0) ≡ false → not sent ≡ false → (code ≡ 1 → ⊥) → of_z w64 got ≡ 0 →
+  pub ended : (got : ℤ) (sent : Bool) → lt_z got (pos 0) ≡ false → sent ≡ true → (code ≡ 1 → ⊥) → of_z w64 got ≡ 0 →
       Close code ≡ after_s got code kept sent
   unfolding after_s
   ended (pos n) true e s h z = rw (ne_eqb code 1 h, eq-eqb n 0 z)
-  ended (pos n) false e s h z = apart s
+  ended (pos n) false e s h z = apart (sym s)
   ended (negsuc n) sent e s h z = apart e
 
-  pub goes_on : (got : ℤ) (sent : Bool) → lt_z got (pos 0) ≡ false → not sent ≡ false → (code ≡ 1 → ⊥) → (of_z w64 got ≡ 0 → ⊥) →
+  pub goes_on : (got : ℤ) (sent : Bool) → lt_z got (pos 0) ≡ false → sent ≡ true → (code ≡ 1 → ⊥) → (of_z w64 got ≡ 0 → ⊥) →
       Go kept ≡ after_s got code kept sent
   unfolding after_s
   goes_on (pos n) true e s h z = rw (ne_eqb code 1 h, ne_eqb n 0 z)
-  goes_on (pos n) false e s h z = apart s
+  goes_on (pos n) false e s h z = apart (sym s)
   goes_on (negsuc n) sent e s h z = apart e
 
 -- the end of the input: what is 0 on its bits is 0

@@ -1,9 +1,8 @@
 -- `digits::eight` meets its contract: what is not there counts as 0. Assumes nothing.
 use mathlib.Core.Path.{◌≡◌, sym, ap, ◌∙◌}
-use mathlib.Core.List.{List, []}
+use mathlib.Core.List.{[]}
 use Prim.Native.Nat.{ℕ, ◌≤◌}
 use native.Mathlib.Omega.{arith}
-use borrow.Author.Rules.{rules}
 use lib.ListN.{length, drop, length-drop, drop_of_length-le}
 use Rattle.digits.specs.Digits.{word}
 use Rattle.digits.proofs.DigitLaws.{word_short}

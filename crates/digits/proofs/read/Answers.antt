@@ -1,9 +1,8 @@
 -- `digits::read` meets its contract: what was read so far is the word of the bytes passed, from the top down. Assumes nothing.
 use mathlib.Core.Path.{◌≡◌, sym, ◌∙◌}
-use Prim.Native.Nat.{ℕ, suc, ◌+◌, ◌-◌, ◌^◌, ◌≤◌, ◌<◌}
-use borrow.Author.Rules.{rules}
+use Prim.Native.Nat.{ℕ, suc, ◌+◌, ◌-◌, ◌<◌}
 use native.Mathlib.Omega.{arith}
-use lib.ListN.{drop, get_or}
+use lib.ListN.{get_or}
 use Rattle.digits.specs.Digits.{word}
 use Rattle.digits.proofs.DigitLaws.{word_more, byte_more, below_64}
 use Rattle.digits.proofs.read.Goals as goal

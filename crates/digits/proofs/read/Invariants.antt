@@ -1,11 +1,8 @@
 -- `digits::read` meets its contract: what was read so far is the word of the bytes passed, from the top down. Assumes nothing.
-use mathlib.Core.Path.{◌≡◌, sym, ◌∙◌}
-use Prim.Native.Nat.{ℕ, suc, ◌+◌, ◌-◌, ◌^◌, ◌≤◌, ◌<◌}
-use borrow.Author.Rules.{rules}
-use native.Mathlib.Omega.{arith}
-use lib.ListN.{drop, get_or}
+use mathlib.Core.Path.{◌≡◌}
+use Prim.Native.Nat.{◌+◌, ◌-◌, ◌^◌, ◌≤◌, ◌<◌}
+use lib.ListN.{drop}
 use Rattle.digits.specs.Digits.{word}
-use Rattle.digits.proofs.DigitLaws.{word_more, byte_more, below_64}
 use Rattle.digits.proofs.read.Given as goal
 
 abbrev pub invariant-loop-i : goal.invariant-loop-i
