@@ -1,6 +1,7 @@
 // The calls out of a program: reads and writes, over any reader and any writer. No contract can say what the system gives and takes: these say
 // how many bytes a read may bring, and what a writer that knows its bytes holds once all were taken.
-ghost use Rattle.std.specs.Prelude.{◌≡◌, ◌≤◌, length, OnTrue};
+ghost use Rattle.std.specs.Prelude.{◌≡◌, length};
+ghost use Rattle.std.specs.Bool.{OnTrue};
 ghost use Rattle.std.specs.Io.{Appends};
 ghost use Rattle.session.specs.Moved.{Moved, IsPrefixLen, clamp_len};
 
