@@ -2,7 +2,7 @@
 // how many bytes a read may bring, and what a writer that knows its bytes holds once all were taken.
 ghost use Rattle.std.specs.Prelude.{◌≡◌, length};
 ghost use Rattle.std.specs.Bool.{OnTrue};
-ghost use Rattle.std.specs.Io.{Appends};
+ghost use Rattle.std.specs.Io.KnownBytes.{Appends};
 ghost use Rattle.session.specs.Moved.{Moved, IsPrefixLen, clamp_len};
 
 use std::io::{Read, Write};
