@@ -1,10 +1,10 @@
 -- `session::to_front` meets its contract: what was moved so far is the front, and the rest is as it was. Assumes nothing.
 use mathlib.Core.Path.{◌≡◌, refl, sym, ap, ◌∙◌}
-use Prim.Native.Nat.{ℕ, ◌-◌}
+use Prim.Native.Nat.{ℕ}
 use native.Mathlib.Omega.{arith}
 use lib.ListN.{take, drop, length-drop}
 use lib.Seq.{take_all}
-use Rattle.session.proofs.FrontLaws.{Moved, moved_more, moved_is, moved_none}
+use Rattle.session.proofs.FrontLaws.{moved_more, moved_is, moved_none}
 use Rattle.session.proofs.to_front.Goals as goal
 
 pub returns-then-buf-from : goal.returns-then-buf-from
