@@ -25,12 +25,12 @@ returns-else-size-2 c =
 -- ---- a fraction still present, or room for one
 pub truncating_f32_to_i64-cut-requires : goal.truncating_f32_to_i64-cut-requires
 truncating_f32_to_i64-cut-requires c =
-    let k = code.in-range binary32 _ _ c.well_formed.0.1 c.fabsf-size.ensures c.if-size-2.true in
+    let k = code.in_range binary32 _ _ c.well_formed.0.1 c.fabsf-size.ensures c.if-size-2.true in
     record { lower_bound = k.0; upper_bound = k.1 }
 
 pub int_to_float-cut : goal.int_to_float-cut
 int_to_float-cut c =
-    code.cut-casts binary32 _ _ c.well_formed.0.1 c.fabsf-size.ensures c.if-size-2.true _
+    code.cut_casts binary32 _ _ c.well_formed.0.1 c.fabsf-size.ensures c.if-size-2.true _
     (code.held _ _ c.truncating_f32_to_i64-cut.ensures)
 
 pub returns-then-cut-x : goal.returns-then-cut-x
