@@ -2,6 +2,6 @@
 // and lgamma_r of 1.
 #![tactic(auto)]
 
-fn main() {
-    serve::run();
+fn main(rt: HostRuntime) {
+    serve::run(rt.stdin(), rt.stdout());
 }

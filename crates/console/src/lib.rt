@@ -15,22 +15,24 @@ use decide::{BROKEN, Next, after, at_end};
 use port::read;
 use records::DONE;
 use relay::answer;
+use session::port::{count, large_buffer};
+use std::io::{Stdin, Stdout};
 
 // One turn: reads once behind the `have` bytes that are there, answers the lines, and says what comes next. Its code is 0: no line stops the
 // program.
-fn pass(buf: &mut [u8], have: usize, replies: &mut [u8]) -> Next
+fn pass(input: Stdin, output: Stdout, buf: &mut [u8], have: usize, replies: &mut [u8]) -> Next
     requires { (have < length buf.old) × ((4 * length buf.old ≤ length replies.old) × (length replies.old ≤ 65536)) }
     ensures { Passed (typing table) (length buf.old) (take have buf.old) result buf.new }
 {
-    let got = read(&mut buf[have..]);
-    let there = have + io::count(got, &buf[have..]);
-    let t = answer(buf, there, at_end(got), replies);
+    let got = read(input, &mut buf[have..]);
+    let there = have + count(got, &buf[have..]);
+    let t = answer(output, buf, there, at_end(got), replies);
     after(got, DONE, t.kept, t.sent)
 }
 
 // All turns, and 0 at the end of the input, or 255 where the input or the output failed. Nothing says that the input ends, so the turns are
 // counted down, from a number that no run uses up.
-fn turns(buf: &mut [u8], replies: &mut [u8]) -> u8
+fn turns(input: Stdin, output: Stdout, buf: &mut [u8], replies: &mut [u8]) -> u8
     requires { (KEPT < length buf.old) × ((4 * length buf.old ≤ length replies.old) × (length replies.old ≤ 65536)) }
     ensures { Ran (typing table) (length buf.old) result }
 {
@@ -38,7 +40,7 @@ fn turns(buf: &mut [u8], replies: &mut [u8]) -> u8
     let mut turns = u64::MAX;
     while turns > 0 {
         turns = turns - 1;
-        match pass(buf, have, replies) {
+        match pass(input, output, buf, have, replies) {
             Next::Go(kept) => {
                 have = kept;
             }
@@ -53,11 +55,11 @@ fn turns(buf: &mut [u8], replies: &mut [u8]) -> u8
     BROKEN
 }
 
-// All of it. Gives back 0 at the end of the input, or 255 where the input or the output failed.
-pub fn run() -> u8
+// All of it, from an input to an output. Gives back 0 at the end of the input, or 255 where the input or the output failed.
+pub fn run(input: Stdin, output: Stdout) -> u8
     ensures { Ran (typing table) 16384 result }
 {
     let mut buf = [0u8; 16384];
-    let mut replies = io::large_buffer();
-    turns(&mut buf, &mut replies)
+    let mut replies = large_buffer();
+    turns(input, output, &mut buf, &mut replies)
 }

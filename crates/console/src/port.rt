@@ -1,22 +1,23 @@
-// The calls out of the program `lines`. No contract can say what C reads and writes, so these say what may be handed to it.
+// The calls out of the program `lines`. No contract can say what the system gives and takes, so these say what may be handed to it.
 ghost use Rattle.std.specs.Prelude.{◌≡◌, ◌<◌, length};
-ghost use Rattle.libc.specs.Io.{Moved};
+ghost use Rattle.session.specs.Moved.{Moved};
 ghost use Rattle.replies.specs.Table.{table};
 ghost use Rattle.text.specs.Typing.{turn_on};
 
-use libc::{STDIN_FILENO, STDOUT_FILENO};
+use session::port;
+use std::io::{Stdin, Stdout};
 
 // Reads once. A read into no room would look like the end of the input.
-pub(crate) fn read(room: &mut [u8]) -> isize
+pub(crate) fn read(mut input: Stdin, room: &mut [u8]) -> isize
     requires { 0 < length room.old }
-    ensures { Moved (length room.old) result }
+    ensures { Moved (length room.new) result }
 {
-    libc::read(STDIN_FILENO, room)
+    port::read(&mut input, room)
 }
 
 // Writes all replies of a turn over `text`, and says whether they were taken.
-pub(crate) fn send(text: &[u8], ended: bool, bytes: &[u8]) -> bool
+pub(crate) fn send(mut output: Stdout, text: &[u8], ended: bool, bytes: &[u8]) -> bool
     requires { bytes.now ≡ (turn_on table ended text.now).bytes }
 {
-    io::write_all(STDOUT_FILENO, bytes)
+    port::write_all(&mut output, bytes)
 }

@@ -10,6 +10,7 @@ use crate::port::send;
 use records::Reply;
 use replies::reply_to;
 use session::to_front;
+use std::io::Stdout;
 use text::{Asked, ask, put_all};
 
 // Of an unfinished line at most so many bytes are kept.
@@ -105,7 +106,13 @@ fn keeps(length: usize) -> usize
 }
 
 // Answers the lines in the first `have` bytes of `buf`, the unfinished one only where the input has ended, and sends the replies.
-pub(crate) fn answer(buf: &mut [u8], have: usize, ended: bool, replies: &mut [u8]) -> Round
+pub(crate) fn answer(
+    output: Stdout,
+    buf: &mut [u8],
+    have: usize,
+    ended: bool,
+    replies: &mut [u8],
+) -> Round
     requires { (have ≤ length buf.old) × ((4 * have ≤ length replies.old) × (length replies.old ≤ 65536)) }
     ensures { Turned (turn_on table ended (take have buf.old)) result buf.new }
 {
@@ -113,11 +120,11 @@ pub(crate) fn answer(buf: &mut [u8], have: usize, ended: bool, replies: &mut [u8
     let read = t.read;
     if ended {
         let written = put_last(replies, t.written, &buf[read..have]);
-        let sent = send(&buf[..have], true, &replies[..written]);
+        let sent = send(output, &buf[..have], true, &replies[..written]);
         return Round { kept: 0, sent };
     }
     let written = t.written;
-    let sent = send(&buf[..have], false, &replies[..written]);
+    let sent = send(output, &buf[..have], false, &replies[..written]);
     let kept = keeps(have - read);
     to_front(buf, read, kept);
     Round { kept, sent }

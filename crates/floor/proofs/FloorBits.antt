@@ -1,5 +1,5 @@
 -- The Rust's way to floor, by masks on the bit pattern, comes to `floorS` for every pattern of the format (`by_bits`). Assumes nothing.
-use Rattle.std.proofs.Common.{◌≡◌, ℕ, ◌+◌, ◌-◌, ◌*◌, ◌/◌, ◌%◌, ◌^◌, ◌<◌, ◌≤◌, Bool, true, false, not, T, eqb, sym, refl, ap, ◌∙◌, subst, inl, inr, mod-eq_of_lt, eq-zero-or-pos, pos_of_ne-zero, div-le_self, arith, eqb→eq, ltb→lt, leb→le, nltb→le, pow_pos, eq-eqb, le-leb}
+use Rattle.std.proofs.Common.{◌≡◌, ℕ, ◌+◌, ◌-◌, ◌*◌, ◌/◌, ◌%◌, ◌^◌, ◌<◌, ◌≤◌, Bool, true, false, not, T, eqb, sym, ap, ◌∙◌, subst, inl, inr, mod-eq_of_lt, eq-zero-or-pos, pos_of_ne-zero, div-le_self, arith, eqb→eq, ltb→lt, leb→le, nltb→le, pow_pos, eq-eqb, le-leb}
 use lib.Bits.{bit_and, and_mask, and_high}
 use lib.Dec.{nleb→lt}
 use lib.Pow as Pow
@@ -92,8 +92,8 @@ module _ (f : Format) (ix : ℕ) (width : ix < 2 * top f) where
         room binary32 b m w l h = omega arith
         room binary64 b m w l h = omega arith
 
-    from_one : Floor (from_one f ix m)
-    from_one =
+    from_one_holds : Floor (from_one f ix m)
+    from_one_holds =
         either (bit_and ix m =? 0) Floor ix (if ix ≥? top f then bit_and (ix + m) (others f m) else bit_and ix (others f m))
         (λ z. clear_stays f ix k here (sym masked ∙ eqb→eq (bit_and ix m) 0 z))
         (λ z. let n : ix % 2 ^ k ≡ 0 → ⊥ = λ e. differ (bit_and ix m) 0 z (masked ∙ e) in
@@ -133,5 +133,5 @@ module _ (f : Format) (ix : ℕ) (width : ix < 2 * top f) where
       either (e ≥? whole_from f) Floor ix (if e ≥? emax f then large else below_one f ix)
       (λ g. no_fraction f ix (leb→le (whole_from f) e g))
       (λ g. either (e ≥? emax f) Floor large (below_one f ix)
-      (λ h. from_one (leb→le (emax f) e h) (nleb→lt (whole_from f) e g))
+      (λ h. from_one_holds (leb→le (emax f) e h) (nleb→lt (whole_from f) e g))
       (λ h. below_one_holds (nleb→lt (emax f) e h)))

@@ -39,6 +39,8 @@ rest_same a b c d B D h = both (a % b) (c % d) b d B D (rests a b c d (c / d) (d
 
 floor_at : (f : Format) (x : Float) (s : Bool) (d w : ℕ) → 0 < w → HasValue x s d w → floor_s f x ≡ cond (eqb (d % w) 0) x (of_int f (below s (d / w)))
 unfolding floor_s
+floor_at f nan s d w W v = elim v [ ]
+floor_at f (inf _) s d w W v = elim v [ ]
 floor_at f (fin t m e) s d w W v =
     let q = div_same (m * up e) (down e) d w (down_pos e) W v.1 in
     let r = rest_same (m * up e) (down e) d w (down_pos e) W v.1 in

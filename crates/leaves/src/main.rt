@@ -38,7 +38,6 @@ use exp::single::expf;
 use floor::{floor, floorf};
 use lgamma::lgamma_r;
 use lgammaf::lgammaf_r;
-use libc::{STDIN_FILENO, STDOUT_FILENO};
 use logarithm::log;
 use logarithm::single::logf;
 use narrow::narrow;
@@ -46,7 +45,9 @@ use poly::{horner, hornerf};
 use pow::pow;
 use scalbn::scalbn;
 use scalbn::single::scalbnf;
+use session::port::{read_full, write_all};
 use sqrt::sqrt;
+use std::io::{Stdin, Stdout};
 use tgamma::tgamma;
 use tgammaf::tgammaf;
 use trig::single::{k_cosf, k_sinf};
@@ -341,20 +342,20 @@ fn answer_each(requests: &[u8], count: usize, answers: &mut [u8])
 }
 
 // Reads requests until the buffer of 2048 is full or the input ends, answers them, and says whether to go on.
-fn turn() -> bool {
+fn turn(mut input: Stdin, mut output: Stdout) -> bool {
     let mut requests = [0u8; 49152];
     let mut answers = [0u8; 16384];
-    let got = io::read_full(STDIN_FILENO, &mut requests);
+    let got = read_full(&mut input, &mut requests);
     let count = got / 24;
     answer_each(&requests, count, &mut answers);
-    let is_written = io::write_all(STDOUT_FILENO, &answers[..count * 8]);
+    let is_written = write_all(&mut output, &answers[..count * 8]);
     is_written && got == 49152
 }
 
 // Nothing says that the input ends, so the turns are counted down, from a number that no run uses up.
-fn main() {
+fn main(rt: HostRuntime) {
     let mut turns = u64::MAX;
-    while turns > 0 && turn() {
+    while turns > 0 && turn(rt.stdin(), rt.stdout()) {
         turns = turns - 1;
     }
 }

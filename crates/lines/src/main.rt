@@ -2,6 +2,6 @@
 // name, and bad ones.
 #![tactic(auto)]
 
-fn main() {
-    console::run();
+fn main(rt: HostRuntime) {
+    console::run(rt.stdin(), rt.stdout());
 }

@@ -12,20 +12,22 @@ ghost use Rattle.serve.specs.Session.{answering};
 use decide::{BROKEN, Next, after, closing, end};
 use port::{close, read};
 use relay::answer;
+use session::port::{count, large_buffer};
+use std::io::{Stdin, Stdout};
 
 // One turn: reads once behind the `have` bytes that are there, answers them all, and says what comes next.
-fn pass(buf: &mut [u8], have: usize, answers: &mut [u8]) -> Next
+fn pass(input: Stdin, output: Stdout, buf: &mut [u8], have: usize, answers: &mut [u8]) -> Next
     requires { have < length buf.old }
     ensures { Passed (answering (length answers.old)) (length buf.old) (take have buf.old) result buf.new }
 {
-    let got = read(&mut buf[have..]);
-    let there = have + io::count(got, &buf[have..]);
-    let t = answer(buf, there, answers);
+    let got = read(input, &mut buf[have..]);
+    let there = have + count(got, &buf[have..]);
+    let t = answer(output, buf, there, answers);
     after(got, t.code, t.kept, t.sent)
 }
 
 // All turns, and the stop code, 255 for none. Nothing says that the input ends, so the turns are counted down, from a number that no run uses up.
-fn turns(buf: &mut [u8], answers: &mut [u8]) -> u8
+fn turns(input: Stdin, output: Stdout, buf: &mut [u8], answers: &mut [u8]) -> u8
     requires { (8 < length buf.old) × (2 * length buf.old ≤ length answers.old) }
     ensures { Ran (answering (length answers.old)) (length buf.old) result }
 {
@@ -33,7 +35,7 @@ fn turns(buf: &mut [u8], answers: &mut [u8]) -> u8
     let mut turns = u64::MAX;
     while turns > 0 {
         turns = turns - 1;
-        match pass(buf, have, answers) {
+        match pass(input, output, buf, have, answers) {
             Next::Go(kept) => {
                 have = kept;
             }
@@ -48,16 +50,16 @@ fn turns(buf: &mut [u8], answers: &mut [u8]) -> u8
     BROKEN
 }
 
-// All of it. Gives back the stop code that it wrote, or 255 where it wrote none.
-pub fn run() -> u8
+// All of it, from an input to an output. Gives back the stop code that it wrote, or 255 where it wrote none.
+pub fn run(input: Stdin, output: Stdout) -> u8
     ensures { Served (answering 65536) 32768 result }
 {
     let mut buf = [0u8; 32768];
-    let mut answers = io::large_buffer();
-    let code = turns(&mut buf, &mut answers);
+    let mut answers = large_buffer();
+    let code = turns(input, output, &mut buf, &mut answers);
     let last = closing(code);
     let length = last.length;
     let bytes = last.bytes;
-    let sent = close(code, &bytes[..length]);
+    let sent = close(output, code, &bytes[..length]);
     end(code, sent)
 }

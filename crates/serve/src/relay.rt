@@ -4,6 +4,7 @@ ghost use Rattle.serve.specs.Turn.{Turned};
 
 use crate::port::send;
 use session::to_front;
+use std::io::Stdout;
 use stream::batch;
 
 // Why the batch of a turn stopped, how many unread bytes are kept, and whether the answers were taken.
@@ -15,13 +16,13 @@ pub(crate) struct Round {
 }
 
 // Answers the first `have` bytes of `buf` in `answers`, and sends the answers.
-pub(crate) fn answer(buf: &mut [u8], have: usize, answers: &mut [u8]) -> Round
+pub(crate) fn answer(output: Stdout, buf: &mut [u8], have: usize, answers: &mut [u8]) -> Round
     requires { have ≤ length buf.old }
     ensures { Turned (take have buf.old) answers.old result buf.new answers.new }
 {
     let t = batch(&buf[..have], answers);
     let written = t.tally.written;
-    let sent = send(&buf[..have], answers.len(), &answers[..written]);
+    let sent = send(output, &buf[..have], answers.len(), &answers[..written]);
     let read = t.tally.read;
     let kept = have - read;
     to_front(buf, read, kept);

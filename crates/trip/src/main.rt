@@ -4,8 +4,9 @@
 #![tactic(auto)]
 
 use digits::{get, put};
-use libc::{STDIN_FILENO, STDOUT_FILENO};
 use records::Report;
+use session::port::{read_full, write_all};
+use std::io::{Stdin, Stdout};
 use text::{requests_of, text_of};
 
 const MOST: usize = 4096;
@@ -19,29 +20,35 @@ fn turned(mode: u64, asked: &[u8], answers: &mut [u8]) -> Report {
 }
 
 // Writes a report and the answer buffer, and says whether they were taken.
-fn told(t: Report, answers: &[u8]) -> bool {
+fn told(mut output: Stdout, t: Report, answers: &[u8]) -> bool {
     let counts = t.tally;
     let mut head = [0u8; 7];
     put(&mut head, 0, 1, t.code as u64);
     put(&mut head, 1, 2, counts.records as u64);
     put(&mut head, 3, 2, counts.read as u64);
     put(&mut head, 5, 2, counts.written as u64);
-    io::write_all(STDOUT_FILENO, &head) && io::write_all(STDOUT_FILENO, answers)
+    write_all(&mut output, &head) && write_all(&mut output, answers)
 }
 
 // Reads the bytes of a question and answers it: whether to go on.
-fn answered(mode: u64, asked: &mut [u8], answers: &mut [u8]) -> bool {
-    if io::read_full(STDIN_FILENO, asked) < asked.len() {
+fn answered(
+    mut input: Stdin,
+    output: Stdout,
+    mode: u64,
+    asked: &mut [u8],
+    answers: &mut [u8],
+) -> bool {
+    if read_full(&mut input, asked) < asked.len() {
         return false;
     }
     let t = turned(mode, asked, answers);
-    told(t, answers)
+    told(output, t, answers)
 }
 
 // One question: whether to go on.
-fn turn() -> bool {
+fn turn(mut input: Stdin, output: Stdout) -> bool {
     let mut head = [0u8; 5];
-    if io::read_full(STDIN_FILENO, &mut head) < 5 {
+    if read_full(&mut input, &mut head) < 5 {
         return false;
     }
     let mode = get(&head, 0, 1);
@@ -52,13 +59,19 @@ fn turn() -> bool {
     }
     let mut asked = [0u8; MOST];
     let mut answers = [170u8; MOST];
-    answered(mode, &mut asked[..count], &mut answers[..room])
+    answered(
+        input,
+        output,
+        mode,
+        &mut asked[..count],
+        &mut answers[..room],
+    )
 }
 
 // Nothing says that the input ends, so the turns are counted down, from a number that no run uses up.
-fn main() {
+fn main(rt: HostRuntime) {
     let mut turns = u64::MAX;
-    while turns > 0 && turn() {
+    while turns > 0 && turn(rt.stdin(), rt.stdout()) {
         turns = turns - 1;
     }
 }

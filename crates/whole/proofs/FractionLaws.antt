@@ -21,6 +21,8 @@ use Rattle.whole.specs.Whole.{has_fraction_s}
 
 pub fraction_at : (x : Float) (s : Bool) (d w : ℕ) → 0 < w → HasValue x s d w → has_fraction_s x ≡ not (eqb (d % w) 0)
 unfolding has_fraction_s
+fraction_at nan s d w W v = elim v [ ]
+fraction_at (inf _) s d w W v = elim v [ ]
 fraction_at (fin t m e) s d w W v = ap not (rest_same (m * up e) (down e) d w (down_pos e) W v.1)
 
 inf_itself : (s : Bool) → eq (inf s) (inf s) ≡ true

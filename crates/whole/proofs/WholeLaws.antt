@@ -22,6 +22,8 @@ use Rattle.whole.specs.Whole.{signed, small, whole_s}
 
 pub whole_at : (x : Float) (s : Bool) (d w : ℕ) → 0 < w → HasValue x s d w → whole_s x ≡ small s (d / w)
 unfolding whole_s
+whole_at nan s d w W v = elim v [ ]
+whole_at (inf _) s d w W v = elim v [ ]
 whole_at (fin t m e) s d w W v =
     ap (small t) (div_same (m * up e) (down e) d w (down_pos e) W v.1) ∙ ap (λ (k : Bool). small k (d / w)) v.0
 
