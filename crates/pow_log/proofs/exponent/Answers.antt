@@ -1,7 +1,6 @@
 -- `pow_log::exponent` meets its contract. Assumes nothing.
 use Rattle.pow_log.proofs.Integers.{fits_difference, held_difference}
 use native.Mathlib.Omega.{arith}
-use borrow.Author.Rules.{rules}
 use Rattle.pow_log.proofs.exponent.Goals as goal
 
 pub overflow_sub-result : goal.overflow_sub-result

@@ -2,7 +2,6 @@
 use mathlib.Core.Path.{refl}
 use native.Mathlib.Omega.{arith}
 use Rattle.pow_log.proofs.Laws.{near_one, near_three_halves, near_two}
-use borrow.Author.Rules.{rules}
 use Rattle.pow_log.proofs.find.Goals as goal
 
 pub returns-then-j-le235662 : goal.returns-then-j-le235662

@@ -5,7 +5,6 @@ use mir.Val.{to_z, of_z}
 use mir.ValLaws.{to_z-of_z}
 use Rattle.pow_log.specs.Log2.{interval_s}
 use Rattle.pow_log.proofs.Laws.{interval_by}
-use borrow.Author.Rules.{rules}
 use Rattle.pow_log.proofs.interval.Goals as goal
 
 pub returns : goal.returns

@@ -1,6 +1,5 @@
 -- `pow_log::log2` meets its contract. Assumes nothing.
 use mathlib.Core.Path.{◌∙◌}
-use borrow.Author.Rules.{rules}
 use Rattle.pow_log.proofs.log2.Goals as goal
 
 pub returns : goal.returns

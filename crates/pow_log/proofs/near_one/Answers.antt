@@ -1,6 +1,5 @@
 -- `pow_log::near_one` meets its contract. Assumes nothing.
 use Rattle.pow_log.specs.Log2.{near_one_s}
-use borrow.Author.Rules.{rules}
 use Rattle.pow_log.proofs.near_one.Goals as goal
 
 pub returns : goal.returns

@@ -3,7 +3,7 @@ use mathlib.Core.Path.{◌∙◌, ap}
 use mir.Syntax.{w32}
 use mir.ValLaws.{to_z-of_z}
 use Rattle.pow_log.specs.Log2.{interval_s}
-use borrow.Author.Rules.{rules, sfits_of}
+use borrow.Author.Rules.{sfits_of}
 use Rattle.pow_log.proofs.normal.Goals as goal
 
 pub returns : goal.returns

@@ -2,7 +2,6 @@
 use native.Mathlib.Omega.{arith}
 use borrow.Author.Tests.{lt-ltb, le-ltb}
 use Rattle.pow_log.specs.Log2.{log2_s}
-use borrow.Author.Rules.{rules}
 use Rattle.pow_log.proofs.normalised.Goals as goal
 
 pub returns-then-ix-lt1048576 : goal.returns-then-ix-lt1048576

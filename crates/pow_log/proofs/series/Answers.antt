@@ -1,6 +1,5 @@
 -- `pow_log::series` meets its contract. Assumes nothing.
 use Rattle.pow_log.proofs.Laws.{series}
-use borrow.Author.Rules.{rules}
 use Rattle.pow_log.proofs.series.Goals as goal
 
 pub returns : goal.returns
