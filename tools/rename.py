@@ -37,7 +37,7 @@ SEPARATORS = r"\s(){}\[\].,;\"⦃⦄"
 TOKEN = re.compile("[^" + SEPARATORS + "]+")
 HEAD = re.compile(r"^((?:(?:abbrev|unfoldable|pub|data|record|ruleset)\s+)*)([^\s:(){}.,;]+)(?=\s|$)")
 NOT_NAMES = {"use", "unfolding", "mod", "pub", "where", "let", "in", "open", "→", ":", "--", "|", "mutual", "abbrev", "data", "record", "unfoldable", "ruleset"}
-GOAL = re.compile(r"\b(?:tie|[\w-]*-?lts|lts)\.Need-|Measures |In 1 |kinds\.ps")
+GOAL = re.compile(r": goal\.|\b(?:tie|[\w-]*-?lts|lts)\.Need-|Measures |In 1 |kinds\.ps")
 FRONT = re.compile(r"^(?:use|ghost use|pub use)\s+([^\s;{]+?)(?:\.\{([^}]*)\})?\s*(?:as\s+(\S+?))?;?\s*$", re.S)
 
 
@@ -73,23 +73,25 @@ def declared(text, made):
     names = set()
     goals = set()
     lines = text.split("\n")
+    levels = [0]  # how far declarations are indented here, and in the modules around
     inside = False
-    module = False
     for i, line in enumerate(lines):
         if not line.strip() or line.lstrip().startswith("--"):
             continue
-        if not line.startswith(" "):
-            module = line.startswith("module ")
-        elif module and re.match(r"  \S", line):
-            line = line[2:]
-        if not line.startswith(" "):
+        indent = len(line) - len(line.lstrip())
+        while indent < levels[-1]:
+            levels.pop()
+        if indent == levels[-1]:
+            line = line[indent:]
             inside = bool(re.match(r"(?:pub\s+)?(?:data|record)\s", line))
+            if line.startswith("module "):
+                levels.append(indent + 2)
             m = HEAD.match(line)
-            if not m or m[2] in NOT_NAMES:
+            if not m or m[2] in NOT_NAMES or m[2] == "module":
                 continue
             signature = line
             j = i + 1
-            while j < len(lines) and lines[j].startswith("    " if module else " "):
+            while j < len(lines) and lines[j].startswith(" " * (indent + 1)):
                 signature += " " + lines[j].strip()
                 j += 1
             if made and (GOAL.search(signature) or m[2].endswith("-spec") or m[2].endswith("_spec")):
@@ -127,13 +129,13 @@ def main():
     texts = {f: open(f, encoding="utf-8").read() for f in antt_files()}
     own = collections.defaultdict(set)
     for f, t in texts.items():
-        for n in declared(t, f.endswith("/Proof.antt")):
+        for n in declared(t, f.endswith(("/Proof.antt", "/Answers.antt", "/Invariants.antt"))):
             own[n].add(f)
     table = {n: spelled(n) for n in own if spelled(n) != n}
     # names that fall together, in one file or with an import of a library
     bad = 0
     for f, t in texts.items():
-        here = declared(t, f.endswith("/Proof.antt"))
+        here = declared(t, f.endswith(("/Proof.antt", "/Answers.antt", "/Invariants.antt")))
         after = collections.defaultdict(set)
         brought = imports(t)
         for n in here | set(brought):

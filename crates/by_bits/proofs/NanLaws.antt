@@ -20,8 +20,8 @@ module _ (f : Format) (b : ℕ) (h : ltb (ones f * hid f) (b % top f) ≡ true) 
   on_nan g e = sym (ap (to_bits f) (ap g nan_is ∙ e))
 
   module _ (g : Float → Answer) (e : g nan ≡ plus nan) where
-    pub value-on-nan : to_bits f nan ≡ value_on_bits f g b
-    value-on-nan = sym (ap (λ (a : Answer). to_bits f a.value) (ap g nan_is ∙ e))
+    pub value_on_nan : to_bits f nan ≡ value_on_bits f g b
+    value_on_nan = sym (ap (λ (a : Answer). to_bits f a.value) (ap g nan_is ∙ e))
 
-    pub sign-on-nan : pos 1 ≡ sign_on_bits f g b
-    sign-on-nan = sym (ap (λ (a : Answer). a.sign) (ap g nan_is ∙ e))
+    pub sign_on_nan : pos 1 ≡ sign_on_bits f g b
+    sign_on_nan = sym (ap (λ (a : Answer). a.sign) (ap g nan_is ∙ e))

@@ -97,15 +97,15 @@ module _ (s first out : List ℕ) (i read written : ℕ) (l : Looked s first out
 
   -- that is one: the line is answered
   module _ (n : ℕ) (q : List ℕ) (w : Wrote (closed (reply_to table line)) written n out q) (z : get_or s i 0 ≡ NEWLINE) where
-    shut-line : cut (line ++ (get_or s i 0 ∷ [])) ≡ record { finished = line ∷ []; rest = [] }
+    shut_line : cut (line ++ (get_or s i 0 ∷ [])) ≡ record { finished = line ∷ []; rest = [] }
     unfolding cut
-    shut-line = ap (λ (x : ℕ). cut (line ++ (x ∷ []))) z ∙ ap cut (sym (append-nil (closed line))) ∙ cut_closed line [] (rest_free (take i s))
+    shut_line = ap (λ (x : ℕ). cut (line ++ (x ∷ []))) z ∙ ap cut (sym (append-nil (closed line))) ∙ cut_closed line [] (rest_free (take i s))
 
-    pub looked-line : Looked s first q (i + 1) (i + 1) n
+    pub looked_line : Looked s first q (i + 1) (i + 1) n
     unfolding text_of
-    looked-line =
+    looked_line =
         let a = (cut (take i s)).finished in
-        let e : cut (take (i + 1) s) ≡ record { finished = a ++ (line ∷ []); rest = [] } = more ∙ ap (joined a) shut-line in
+        let e : cut (take (i + 1) s) ≡ record { finished = a ++ (line ∷ []); rest = [] } = more ∙ ap (joined a) shut_line in
         let x : said (take i s) ++ closed (reply_to table line) ≡ said (take (i + 1) s) =
         ap (λ (y : List ℕ). said (take i s) ++ y) (sym (append-nil (closed (reply_to table line))))
         ∙ sym (ap text_of (map-append (reply_to table) a (line ∷ [])) ∙ text_append (map (reply_to table) a) (reply_to table line ∷ []))

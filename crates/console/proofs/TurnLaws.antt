@@ -57,8 +57,8 @@ module _ (s l o : List ℕ) (d : Done) (p : Replied s d l o) where
 
   -- and the last
   module _ (q : List ℕ) (n : ℕ) (w : Wrote (last_reply (cut s).rest) d.written n o q) where
-    pub end-wrote : Wrote (turn_on table true s).bytes 0 n l q
-    end-wrote =
+    pub end_wrote : Wrote (turn_on table true s).bytes 0 n l q
+    end_wrote =
         let a = (cut s).finished in
         let r = (cut s).rest in
         let x : (turn_on table false s).bytes ++ last_reply r ≡ (turn_on table true s).bytes =
@@ -67,8 +67,8 @@ module _ (s l o : List ℕ) (d : Done) (p : Replied s d l o) where
         ∙ ap (λ (y : List (List ℕ)). text_of (map (reply_to table) y)) (sym (lines_cut s)) in
         subst (λ (y : List ℕ). Wrote y 0 n l q) x (wrote_more (turn_on table false s).bytes (last_reply r) l o q 0 d.written n open_wrote w)
 
-    pub end-light : n ≤ 4 * length s
-    end-light = omega (arith, w.place, p.light, p.inside, last_light (cut s).rest, rest_length)
+    pub end_light : n ≤ 4 * length s
+    end_light = omega (arith, w.place, p.light, p.inside, last_light (cut s).rest, rest_length)
 
 -- the first bytes of a front
 take_least : (m n : ℕ) (x : List ℕ) → n ≤ length x → take (min m n) x ≡ take m (take n x)
@@ -97,8 +97,8 @@ module _ (b : List ℕ) (have : ℕ) (l o : List ℕ) (d : Done) (h : have ≤ l
         let n = length-drop d.read b in
         ap (λ (k : ℕ). take k (drop d.read b)) e ∙ take_least KEPT (have - d.read) (drop d.read b) (omega arith) ∙ ap (take KEPT) line_is
 
-    pub open-turned : Turned (turn_on table false (take have b)) r q
-    open-turned =
+    pub open_turned : Turned (turn_on table false (take have b)) r q
+    open_turned =
         let i = read_in in
         let k : d.read + r.kept ≤ length b = omega (arith, e, i) in
         let n = length-drop d.read b in

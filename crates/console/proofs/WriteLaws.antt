@@ -72,16 +72,16 @@ module _ (s out q : List ℕ) (at n : ℕ) where
 
   module _ (k b : ℕ) (e : asked names s ≡ Ask k b) where
     -- what the line asks for fits, so the reply is its row's
-    row-reply : reply_s k b ≡ (row_in table k).reply b
-    row-reply = reply_whole k b (subst (λ (w : ℕ). b < 256 ^ w) (sym (row_width k)) (ask_small s k b e))
+    row_reply : reply_s k b ≡ (row_in table k).reply b
+    row_reply = reply_whole k b (subst (λ (w : ℕ). b < 256 ^ w) (sym (row_width k)) (ask_small s k b e))
 
-    pub ask-wrote : (o : List ℕ) → o ≡ sets out at s → Wrote (closed (shown (reply_s k b))) (at + length s) n o q → Wrote (closed (reply_to table s)) at n out q
-    ask-wrote o eo w =
+    pub ask_wrote : (o : List ℕ) → o ≡ sets out at s → Wrote (closed (shown (reply_s k b))) (at + length s) n o q → Wrote (closed (reply_to table s)) at n out q
+    ask_wrote o eo w =
         let y = closed (shown (reply_s k b)) in
         let f : Wrote s at (at + length s) out o = record { place = refl; buffer = eo } in
         let g = wrote_more s y out o q at (at + length s) n f w in
         let z : s ++ y ≡ closed (reply_to table s) =
-        sym (append_assoc s (shown (reply_s k b)) (NEWLINE ∷ [])) ∙ ap (λ (r : Reply). closed (s ++ shown r)) row-reply ∙ ap closed (sym (reply_ask table s k b e)) in
+        sym (append_assoc s (shown (reply_s k b)) (NEWLINE ∷ [])) ∙ ap (λ (r : Reply). closed (s ++ shown r)) row_reply ∙ ap closed (sym (reply_ask table s k b e)) in
         record { place = g.place ∙ ap (λ (x : List ℕ). at + length x) z; buffer = g.buffer ∙ ap (sets out at) z }
 
 -- the reply to a last line without newline

@@ -24,12 +24,12 @@ pub record AnnexF (p : Plan) : Type 0 where
 pub annex_f : (p : Plan) → Regular p → AnnexF p
 annex_f p r = record {
   erf_zero = λ s.
-      sym (code.erf-tiny p refl refl (lt_trans (r.ix_zero s) (lt_trans r.small_cuts r.below_infinity)) (lt_trans (r.ix_zero s) r.small_cuts) (r.ix_zero s))
+      sym (code.erf_tiny p refl refl (lt_trans (r.ix_zero s) (lt_trans r.small_cuts r.below_infinity)) (lt_trans (r.ix_zero s) r.small_cuts) (r.ix_zero s))
       ∙ r.at_zero s;
-  erf_inf = sym (code.erf-not-finite p refl refl (r.ix_inf false)) ∙ r.erf_ends.1;
-  erf_minus_inf = sym (code.erf-not-finite p refl refl (r.ix_inf true)) ∙ r.erf_ends.2;
-  erf_nan = sym (code.erf-not-finite p refl refl r.ix_nan) ∙ r.erf_ends.0;
-  erfc_inf = sym (code.erfc-not-finite p refl refl (r.ix_inf false)) ∙ r.erfc_ends.1;
-  erfc_minus_inf = sym (code.erfc-not-finite p refl refl (r.ix_inf true)) ∙ r.erfc_ends.2;
-  erfc_nan = sym (code.erfc-not-finite p refl refl r.ix_nan) ∙ r.erfc_ends.0;
+  erf_inf = sym (code.erf_not_finite p refl refl (r.ix_inf false)) ∙ r.erf_ends.1;
+  erf_minus_inf = sym (code.erf_not_finite p refl refl (r.ix_inf true)) ∙ r.erf_ends.2;
+  erf_nan = sym (code.erf_not_finite p refl refl r.ix_nan) ∙ r.erf_ends.0;
+  erfc_inf = sym (code.erfc_not_finite p refl refl (r.ix_inf false)) ∙ r.erfc_ends.1;
+  erfc_minus_inf = sym (code.erfc_not_finite p refl refl (r.ix_inf true)) ∙ r.erfc_ends.2;
+  erfc_nan = sym (code.erfc_not_finite p refl refl r.ix_nan) ∙ r.erfc_ends.0;
 }

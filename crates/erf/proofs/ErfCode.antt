@@ -19,42 +19,42 @@ module _ (p : Plan) where
 
   -- ---- ratio: R and S are the values of its two polynomials
   module _ {ix : ℕ} (s : Float) {R S : Float} where
-    pub ratio-near : ix < p.at1/0·35 → R ≡ horner_s f p.RA s → S ≡ horner_s f p.SA s → div f R S ≡ ratio_s p ix s
+    pub ratio_near : ix < p.at1/0·35 → R ≡ horner_s f p.RA s → S ≡ horner_s f p.SA s → div f R S ≡ ratio_s p ix s
     unfolding ratio_s
-    ratio-near h r q = simp (lt-ltb ix p.at1/0·35 h, r, q)
+    ratio_near h r q = simp (lt-ltb ix p.at1/0·35 h, r, q)
 
-    pub ratio-far : p.at1/0·35 ≤ ix → R ≡ horner_s f p.RB s → S ≡ horner_s f p.SB s → div f R S ≡ ratio_s p ix s
+    pub ratio_far : p.at1/0·35 ≤ ix → R ≡ horner_s f p.RB s → S ≡ horner_s f p.SB s → div f R S ≡ ratio_s p ix s
     unfolding ratio_s
-    ratio-far h r q = simp (le-ltb ix p.at1/0·35 h, r, q)
+    ratio_far h r q = simp (le-ltb ix p.at1/0·35 h, r, q)
 
   -- ---- erfc2: A is the value of the first exp, B of the second
   module _ {ix : ℕ} (x : Float) where
-    pub erfc2-near : ix < p.at1·25 → erfc1_s p x ≡ erfc2_s p ix x
+    pub erfc2_near : ix < p.at1·25 → erfc1_s p x ≡ erfc2_s p ix x
     unfolding erfc2_s
-    erfc2-near h = simp (lt-ltb ix p.at1·25 h)
+    erfc2_near h = simp (lt-ltb ix p.at1·25 h)
 
-    pub erfc2-far : {a z q A B : Float} → p.at1·25 ≤ ix → a ≡ fabs_s x → z ≡ short_s p a
+    pub erfc2_far : {a z q A B : Float} → p.at1·25 ≤ ix → a ≡ fabs_s x → z ≡ short_s p a
         → A ≡ p.exp (sub f (mul f (neg z) z) p.0·5625)
         → q ≡ ratio_s p ix (div f p.1·0 (mul f a a))
         → B ≡ p.exp (add f (mul f (sub f z a) (add f z a)) q)
         → div f (mul f A B) a ≡ erfc2_s p ix x
     unfolding erfc2_s
-    erfc2-far h ea ez eA eq eB = simp (le-ltb ix p.at1·25 h) (rw (eB, eq, eA, ez, ea))
+    erfc2_far h ea ez eA eq eB = simp (le-ltb ix p.at1·25 h) (rw (eB, eq, eA, ez, ea))
 
   -- of a NaN, where exp, erfc1 and z keep it
   module _ (e : p.exp nan ≡ nan) (n : erfc1_s p nan ≡ nan) (z : short_s p nan ≡ nan) where
-    first-exp : p.exp (sub f (mul f (neg (short_s p nan)) (short_s p nan)) p.0·5625) ≡ nan
+    first_exp : p.exp (sub f (mul f (neg (short_s p nan)) (short_s p nan)) p.0·5625) ≡ nan
     unfolding neg sub add mul
-    first-exp = ap (λ (v : Float). p.exp (sub f (mul f (neg v) v) p.0·5625)) z ∙ e
+    first_exp = ap (λ (v : Float). p.exp (sub f (mul f (neg v) v) p.0·5625)) z ∙ e
 
-    pub erfc2-nan : (ix : ℕ) → erfc2_s p ix nan ≡ nan
+    pub erfc2_nan : (ix : ℕ) → erfc2_s p ix nan ≡ nan
     unfolding erfc2_s fabs_s mul div
-    erfc2-nan ix = go (ltb ix p.at1·25) _
+    erfc2_nan ix = go (ltb ix p.at1·25) _
       where
         go : (b : Bool) (B : Float)
             → pick b (erfc1_s p nan) (div f (mul f (p.exp (sub f (mul f (neg (short_s p nan)) (short_s p nan)) p.0·5625)) B) nan) ≡ nan
         go true B = n
-        go false B = ap (λ (A : Float). div f (mul f A B) nan) first-exp
+        go false B = ap (λ (A : Float). div f (mul f A B) nan) first_exp
 
   -- ---- erf and erfc
   -- erfc's test at 1/4, where the sign counts
@@ -70,69 +70,69 @@ module _ (p : Plan) where
   signed sign y = pick (not (eqb sign 0)) (neg y) y
 
   module _ {x : Float} {ix sign : ℕ} (i : ix ≡ p.ix x) (s : sign ≡ sign_s f x) where
-    pub erf-not-finite : p.not_finite ≤ ix
+    pub erf_not_finite : p.not_finite ≤ ix
         → add f (sub f p.1·0 (mul f p.2·0 (of_int f (pos sign)))) (div f p.1·0 x) ≡ erf_s p x
     unfolding erf_s
-    erf-not-finite n = rw (← i, ← s) (simp (le-leb p.not_finite ix n))
+    erf_not_finite n = rw (← i, ← s) (simp (le-leb p.not_finite ix n))
 
-    pub erfc-not-finite : p.not_finite ≤ ix → add f (mul f p.2·0 (of_int f (pos sign))) (div f p.1·0 x) ≡ erfc_s p x
+    pub erfc_not_finite : p.not_finite ≤ ix → add f (mul f p.2·0 (of_int f (pos sign))) (div f p.1·0 x) ≡ erfc_s p x
     unfolding erfc_s
-    erfc-not-finite n = rw (← i, ← s) (simp (le-leb p.not_finite ix n))
+    erfc_not_finite n = rw (← i, ← s) (simp (le-leb p.not_finite ix n))
 
     module _ (n : ix < p.not_finite) where
       -- ---- below 0.84375; y is small_s
-      pub erf-tiny : ix < p.at0·84375 → ix < p.at2^-28 → mul f p.0·125 (add f (mul f p.8·0 x) (mul f p.EFX8 x)) ≡ erf_s p x
+      pub erf_tiny : ix < p.at0·84375 → ix < p.at2^-28 → mul f p.0·125 (add f (mul f p.8·0 x) (mul f p.EFX8 x)) ≡ erf_s p x
       unfolding erf_s
-      erf-tiny h t = rw (← i, ← s) (simp (lt-leb p.not_finite ix n, lt-ltb ix p.at0·84375 h, lt-ltb ix p.at2^-28 t))
+      erf_tiny h t = rw (← i, ← s) (simp (lt-leb p.not_finite ix n, lt-ltb ix p.at0·84375 h, lt-ltb ix p.at2^-28 t))
 
-      pub erf-small : {y : Float} → ix < p.at0·84375 → p.at2^-28 ≤ ix → y ≡ small_s p x → add f x (mul f x y) ≡ erf_s p x
+      pub erf_small : {y : Float} → ix < p.at0·84375 → p.at2^-28 ≤ ix → y ≡ small_s p x → add f x (mul f x y) ≡ erf_s p x
       unfolding erf_s
-      erf-small h t e = rw (← i, ← s) (simp (lt-leb p.not_finite ix n, lt-ltb ix p.at0·84375 h, le-ltb ix p.at2^-28 t, e))
+      erf_small h t e = rw (← i, ← s) (simp (lt-leb p.not_finite ix n, lt-ltb ix p.at0·84375 h, le-ltb ix p.at2^-28 t, e))
 
-      pub erfc-tiny : ix < p.at0·84375 → ix < p.at2^-56 → sub f p.1·0 x ≡ erfc_s p x
+      pub erfc_tiny : ix < p.at0·84375 → ix < p.at2^-56 → sub f p.1·0 x ≡ erfc_s p x
       unfolding erfc_s
-      erfc-tiny h t = rw (← i, ← s) (simp (lt-leb p.not_finite ix n, lt-ltb ix p.at0·84375 h, lt-ltb ix p.at2^-56 t))
+      erfc_tiny h t = rw (← i, ← s) (simp (lt-leb p.not_finite ix n, lt-ltb ix p.at0·84375 h, lt-ltb ix p.at2^-56 t))
 
-      pub erfc-below-quarter : {y : Float} → ix < p.at0·84375 → p.at2^-56 ≤ ix → y ≡ small_s p x → BelowQuarter ix sign
+      pub erfc_below_quarter : {y : Float} → ix < p.at0·84375 → p.at2^-56 ≤ ix → y ≡ small_s p x → BelowQuarter ix sign
           → sub f p.1·0 (add f x (mul f x y)) ≡ erfc_s p x
       unfolding erfc_s
-      erfc-below-quarter h t e q =
+      erfc_below_quarter h t e q =
           rw (← i, ← s)
           (simp (lt-leb p.not_finite ix n, lt-ltb ix p.at0·84375 h, le-ltb ix p.at2^-56 t, below_quarter ix sign q, e))
 
-      pub erfc-from-quarter : {y : Float} → ix < p.at0·84375 → p.at2^-56 ≤ ix → y ≡ small_s p x → sign ≡ 0 → ltb ix p.at1/4 ≡ false
+      pub erfc_from_quarter : {y : Float} → ix < p.at0·84375 → p.at2^-56 ≤ ix → y ≡ small_s p x → sign ≡ 0 → ltb ix p.at1/4 ≡ false
           → sub f p.0·5 (add f (sub f x p.0·5) (mul f x y)) ≡ erfc_s p x
       unfolding erfc_s
-      erfc-from-quarter h t e z q =
+      erfc_from_quarter h t e z q =
           rw (← i, ← s)
           (simp (lt-leb p.not_finite ix n, lt-ltb ix p.at0·84375 h, le-ltb ix p.at2^-56 t, eq-eqb sign 0 z, q, e))
 
       -- ---- from 0.84375 on; y is erfc2_s
       module _ (h : p.at0·84375 ≤ ix) where
-        pub erf-below-6 : {y : Float} → ix < p.at6 → y ≡ erfc2_s p ix x → signed sign (sub f p.1·0 y) ≡ erf_s p x
+        pub erf_below_6 : {y : Float} → ix < p.at6 → y ≡ erfc2_s p ix x → signed sign (sub f p.1·0 y) ≡ erf_s p x
         unfolding erf_s
-        erf-below-6 t e = rw (← i, ← s) (simp (lt-leb p.not_finite ix n, le-ltb ix p.at0·84375 h, lt-ltb ix p.at6 t, e))
+        erf_below_6 t e = rw (← i, ← s) (simp (lt-leb p.not_finite ix n, le-ltb ix p.at0·84375 h, lt-ltb ix p.at6 t, e))
 
-        pub erf-from-6 : p.at6 ≤ ix → signed sign (sub f p.1·0 p.tiny) ≡ erf_s p x
+        pub erf_from_6 : p.at6 ≤ ix → signed sign (sub f p.1·0 p.tiny) ≡ erf_s p x
         unfolding erf_s
-        erf-from-6 t = rw (← i, ← s) (simp (lt-leb p.not_finite ix n, le-ltb ix p.at0·84375 h, le-ltb ix p.at6 t))
+        erf_from_6 t = rw (← i, ← s) (simp (lt-leb p.not_finite ix n, le-ltb ix p.at0·84375 h, le-ltb ix p.at6 t))
 
-        pub erfc-minus : {y : Float} → ix < p.at28 → (sign ≡ 0 → ⊥) → y ≡ erfc2_s p ix x → sub f p.2·0 y ≡ erfc_s p x
+        pub erfc_minus : {y : Float} → ix < p.at28 → (sign ≡ 0 → ⊥) → y ≡ erfc2_s p ix x → sub f p.2·0 y ≡ erfc_s p x
         unfolding erfc_s
-        erfc-minus t z e =
+        erfc_minus t z e =
             rw (← i, ← s) (simp (lt-leb p.not_finite ix n, le-ltb ix p.at0·84375 h, lt-ltb ix p.at28 t, ne_eqb sign 0 z, e))
 
-        pub erfc-plus : ix < p.at28 → sign ≡ 0 → erfc2_s p ix x ≡ erfc_s p x
+        pub erfc_plus : ix < p.at28 → sign ≡ 0 → erfc2_s p ix x ≡ erfc_s p x
         unfolding erfc_s
-        erfc-plus t z =
+        erfc_plus t z =
             rw (← i, ← s) (simp (lt-leb p.not_finite ix n, le-ltb ix p.at0·84375 h, lt-ltb ix p.at28 t, eq-eqb sign 0 z))
 
-        pub erfc-far-minus : p.at28 ≤ ix → (sign ≡ 0 → ⊥) → sub f p.2·0 p.tiny ≡ erfc_s p x
+        pub erfc_far_minus : p.at28 ≤ ix → (sign ≡ 0 → ⊥) → sub f p.2·0 p.tiny ≡ erfc_s p x
         unfolding erfc_s
-        erfc-far-minus t z =
+        erfc_far_minus t z =
             rw (← i, ← s) (simp (lt-leb p.not_finite ix n, le-ltb ix p.at0·84375 h, le-ltb ix p.at28 t, ne_eqb sign 0 z))
 
-        pub erfc-far-plus : p.at28 ≤ ix → sign ≡ 0 → mul f p.tiny p.tiny ≡ erfc_s p x
+        pub erfc_far_plus : p.at28 ≤ ix → sign ≡ 0 → mul f p.tiny p.tiny ≡ erfc_s p x
         unfolding erfc_s
-        erfc-far-plus t z =
+        erfc_far_plus t z =
             rw (← i, ← s) (simp (lt-leb p.not_finite ix n, le-ltb ix p.at0·84375 h, le-ltb ix p.at28 t, eq-eqb sign 0 z))

@@ -22,7 +22,7 @@ use Rattle.poly.specs.Horner.{horner_s}
 use Rattle.erf.specs.Plan.{Plan}
 use Rattle.erf.specs.Plan as Plan
 use Rattle.erf.proofs.AnnexF.{annex_f}
-use Rattle.erf.proofs.Regular.{Regular, value_at, ix_neg, ix_finite, from_cut, small-plus}
+use Rattle.erf.proofs.Regular.{Regular, value_at, ix_neg, ix_finite, from_cut, small_plus}
 
 -- ---- a sum of two values with no minus sign turns with both
 add_odd_plus : (f : Format) (x y : Float) → Signed false x → Signed false y → add f (neg x) (neg y) ≡ neg (add f x y)
@@ -107,7 +107,7 @@ module _ (p : Plan) where
       (λ (h : T (ltb w p.at0·84375)).
       pick_through neg (ltb w p.at2^-28) _ _ _ _
       (λ (k : T (ltb w p.at2^-28)). tiny_odd r m e)
-      (λ (k : T (not (ltb w p.at2^-28))). sum_odd x (small-plus p r m e F (nltb→le w p.at2^-28 k) (ltb→lt w p.at0·84375 h))))
+      (λ (k : T (not (ltb w p.at2^-28))). sum_odd x (small_plus p r m e F (nltb→le w p.at2^-28 k) (ltb→lt w p.at0·84375 h))))
       (λ (h : T (not (ltb w p.at0·84375))). rw (erfc2_even w x) refl))
 
   -- where x is -y, y is -x

@@ -102,15 +102,15 @@ module _ (p : Plan) (r : Regular p) where
     pub from_cut : T (le (at p.at0·84375) x) → p.at0·84375 ≤ p.ix x
     from_cut h = rw (r.ix_is x) ((le-div_iff_mul-le unit_pos).1 (bits_from f false m e F (p.at0·84375 * unit) cut_inside h))
 
-    small-in : p.at2^-28 ≤ p.ix x → p.ix x < p.at0·84375 → In (at p.at2^-28) (at p.at0·84375) x
-    small-in lo hi = (
+    small_in : p.at2^-28 ≤ p.ix x → p.ix x < p.at0·84375 → In (at p.at2^-28) (at p.at0·84375) x
+    small_in lo hi = (
       from_bits f false m e F (p.at2^-28 * unit) ((le-div_iff_mul-le unit_pos).0 (rw (r.ix_is x) at lo)),
       upto_bits f false m e F (p.at0·84375 * unit) cut_inside (le_of_lt ((div-lt_iff_lt-mul unit_pos).0 (rw (r.ix_is x) at hi))),
     )
 
-    pub small-plus : p.at2^-28 ≤ p.ix x → p.ix x < p.at0·84375 → T (positive (add f x (mul f x (Plan.small_s p x))))
-    small-plus lo hi =
+    pub small_plus : p.at2^-28 ≤ p.ix x → p.ix x < p.at0·84375 → T (positive (add f x (mul f x (Plan.small_s p x))))
+    small_plus lo hi =
         let i =
         subst (In p.tiny p.1·0) (sum_is p x)
-        (halved 4 f p.tiny p.1·0 (sum_e p) [] [] (at p.at2^-28) (at p.at0·84375) x tt r.small_test tt (small-in lo hi)) in
+        (halved 4 f p.tiny p.1·0 (sum_e p) [] [] (at p.at2^-28) (at p.at0·84375) x tt r.small_test tt (small_in lo hi)) in
         between p.tiny (add f x (mul f x (Plan.small_s p x))) p.1·0 r.tiny_plus r.one_plus i.0 i.1

@@ -13,13 +13,13 @@ module _ (p : Plan) {from upto ix : ℕ} {x y : Float} where
     pub none_below : ix < from → Made p from upto ix x y
     none_below l = record { small = λ f _. absurd (omega arith); tail = λ f _. absurd (omega arith) }
 
-    pub by-small : y ≡ small_s p x → Made p from upto ix x y
-    by-small e = record { small = λ _ _. e; tail = λ f _. absurd (omega arith) }
+    pub by_small : y ≡ small_s p x → Made p from upto ix x y
+    by_small e = record { small = λ _ _. e; tail = λ f _. absurd (omega arith) }
 
   -- from 0.84375 on: from the last cut on any y serves
   module _ (h : p.at0·84375 ≤ ix) where
-    pub by-tail : y ≡ erfc2_s p ix x → Made p from upto ix x y
-    by-tail e = record { small = λ _ l. absurd (omega arith); tail = λ _ _. e }
+    pub by_tail : y ≡ erfc2_s p ix x → Made p from upto ix x y
+    by_tail e = record { small = λ _ l. absurd (omega arith); tail = λ _ _. e }
 
     pub none_above : upto ≤ ix → Made p from upto ix x y
     none_above l = record { small = λ _ k. absurd (omega arith); tail = λ _ k. absurd (omega arith) }

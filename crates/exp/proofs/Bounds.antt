@@ -13,7 +13,7 @@ use Rattle.words.proofs.CutLaws.{word_from, word_upto, sign_of_is}
 use Rattle.whole.proofs.WholeBounds.{number, Minus, whole_minus}
 use Rattle.exp.specs.Plan.{multiple_s, reduced_s, plain_s}
 use Rattle.exp.specs.Exp.{exp64, exp_s}
-use Rattle.exp.proofs.Cells.{product, quotient, over-low, under-high, least, one, cell_range}
+use Rattle.exp.proofs.Cells.{product, quotient, over_low, under_high, least, one, cell_range}
 
 -- -190 and -5.5
 abbrev pub from190 : Float
@@ -87,7 +87,7 @@ reduced_range x X i = go w.q w.is w.from w.upto w.reached w.short
     go (suc j) e h k r s =
         let a : 7 ≤ j = omega arith in
         let b : j ≤ 274 = omega arith in
-        rw e (cell_range j x a b (over-low j a b x X U s, under-high j a b x X U r))
+        rw e (cell_range j x a b (over_low j a b x X U s, under_high j a b x X U r))
 
 below_zero : (m : ℕ) (e : ℤ) → T (le (fin false m e) to55) → ⊥
 below_zero m e h = clash (m * up e) (down e) (down_pos e) (le→Le false m e true 11 (negsuc 0) h)

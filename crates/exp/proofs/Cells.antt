@@ -124,9 +124,9 @@ module _ (j : ℕ) (from : 7 ≤ j) (upto : j ≤ 274) where
 
   module _ (x : Float) (X : T (finite x)) (U : T (finite (product x))) where
     -- above k - 1, so from the low end on
-    pub over-low : (T (le (quotient x) (number true (suc (suc j)))) → ⊥) → T (le (low_end j) x)
+    pub over_low : (T (le (quotient x) (number true (suc (suc j)))) → ⊥) → T (le (low_end j) x)
     unfolding is_low_ok
-    over-low short = go (le x (low_end j)) refl
+    over_low short = go (le x (low_end j)) refl
       where
         go : (b : Bool) → le x (low_end j) ≡ b → T (le (low_end j) x)
         go true e =
@@ -135,9 +135,9 @@ module _ (j : ℕ) (from : 7 ≤ j) (upto : j ≤ 274) where
         go false e = le_total x (low_end j) X tt (subst (λ (z : Bool). T (not z)) (sym e) tt)
 
     -- at most k, so up to the high end
-    pub under-high : T (le (quotient x) (number true (suc j))) → T (le x (high_end j))
+    pub under_high : T (le (quotient x) (number true (suc j))) → T (le x (high_end j))
     unfolding is_high_ok
-    under-high reached = go (le x (high_end j)) refl
+    under_high reached = go (le x (high_end j)) refl
       where
         go : (b : Bool) → le x (high_end j) ≡ b → T (le x (high_end j))
         go true e = subst T (sym e) tt

@@ -19,9 +19,9 @@ module _ (p : Plan) where
       add p.format p.1·0 (add p.format (sub p.format q lo) hi)
 
   module _ (R x hi lo : Float) (k : ℤ) (F : SFits w32 k) (e : R ≡ horner_s p.format p.P (mul p.format x x)) where
-    pub not-scaled : of_z w32 k ≡ 0 → y_of R x hi lo ≡ primary_s p x hi lo k
+    pub not_scaled : of_z w32 k ≡ 0 → y_of R x hi lo ≡ primary_s p x hi lo k
     unfolding primary_s
-    not-scaled z = simp (eq-eqb (nat_abs k) 0 (zero_of_bits k F z), e)
+    not_scaled z = simp (eq-eqb (nat_abs k) 0 (zero_of_bits k F z), e)
 
     pub scaled : (of_z w32 k ≡ 0 → ⊥) → scalbn_s p.format (y_of R x hi lo) (local k) ≡ primary_s p x hi lo k
     unfolding primary_s
@@ -32,25 +32,25 @@ module _ (p : Plan) where
   quotient x half = add p.format (mul p.format p.INVLN2 x) half
 
   module _ (x : Float) (hx sign : ℕ) where
-    pub nearest-plus : p.from1·5ln2 ≤ hx → sign ≡ 0 → whole_s (quotient x p.0·5) ≡ multiple_s p x hx sign
+    pub nearest_plus : p.from1·5ln2 ≤ hx → sign ≡ 0 → whole_s (quotient x p.0·5) ≡ multiple_s p x hx sign
     unfolding multiple_s
-    nearest-plus h s = simp (le-leb p.from1·5ln2 hx h, eq-eqb sign 0 s)
+    nearest_plus h s = simp (le-leb p.from1·5ln2 hx h, eq-eqb sign 0 s)
 
-    pub nearest-minus : p.from1·5ln2 ≤ hx → (sign ≡ 0 → ⊥) → whole_s (quotient x p.-0·5) ≡ multiple_s p x hx sign
+    pub nearest_minus : p.from1·5ln2 ≤ hx → (sign ≡ 0 → ⊥) → whole_s (quotient x p.-0·5) ≡ multiple_s p x hx sign
     unfolding multiple_s
-    nearest-minus h s = simp (le-leb p.from1·5ln2 hx h, ne_eqb sign 0 s)
+    nearest_minus h s = simp (le-leb p.from1·5ln2 hx h, ne_eqb sign 0 s)
 
-    pub once-plus : hx < p.from1·5ln2 → sign ≡ 0 → pos 1 ≡ multiple_s p x hx sign
+    pub once_plus : hx < p.from1·5ln2 → sign ≡ 0 → pos 1 ≡ multiple_s p x hx sign
     unfolding multiple_s
-    once-plus h s = simp (lt-leb p.from1·5ln2 hx h, eq-eqb sign 0 s)
+    once_plus h s = simp (lt-leb p.from1·5ln2 hx h, eq-eqb sign 0 s)
 
-    pub once-minus : hx < p.from1·5ln2 → (sign ≡ 0 → ⊥) → negsuc 0 ≡ multiple_s p x hx sign
+    pub once_minus : hx < p.from1·5ln2 → (sign ≡ 0 → ⊥) → negsuc 0 ≡ multiple_s p x hx sign
     unfolding multiple_s
-    once-minus h s = simp (lt-leb p.from1·5ln2 hx h, ne_eqb sign 0 s)
+    once_minus h s = simp (lt-leb p.from1·5ln2 hx h, ne_eqb sign 0 s)
 
-    pub by-multiple : (k : ℤ) → SFits w32 k → k ≡ multiple_s p x hx sign → p.to0·5ln2 < hx → reduced_s p x (local k) ≡ plain_s p x hx sign
+    pub by_multiple : (k : ℤ) → SFits w32 k → k ≡ multiple_s p x hx sign → p.to0·5ln2 < hx → reduced_s p x (local k) ≡ plain_s p x hx sign
     unfolding plain_s
-    by-multiple k F e h = simp (lt-ltb p.to0·5ln2 hx h) (ap (reduced_s p x) (to_z-of_z w32 k F ∙ e))
+    by_multiple k F e h = simp (lt-ltb p.to0·5ln2 hx h) (ap (reduced_s p x) (to_z-of_z w32 k F ∙ e))
 
     pub by_itself : hx ≤ p.to0·5ln2 → p.to_tiny < hx → primary_s p x x p.0·0 (pos 0) ≡ plain_s p x hx sign
     unfolding plain_s

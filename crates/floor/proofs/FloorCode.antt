@@ -211,15 +211,15 @@ module _ (f : Format) (x size : Float) (fit : fits f x ≡ true) (is : size ≡ 
     abbrev q : ℕ
     q = u.d / u.w
 
-    q-under : (q < 2 ^ prec f) × (q < 2 ^ 63)
-    q-under = go f q ((div-lt_iff_lt-mul u.W).1 bounded.1)
+    q_under : (q < 2 ^ prec f) × (q < 2 ^ 63)
+    q_under = go f q ((div-lt_iff_lt-mul u.W).1 bounded.1)
       where
         go : (f : Format) (q : ℕ) → q < hid f → (q < 2 ^ prec f) × (q < 2 ^ 63)
         go binary32 q h = (omega arith, omega arith)
         go binary64 q h = (omega arith, omega arith)
 
-    pub in-range : T (le (fin true 1 (pos 63)) x) × T (lt x (fin false 1 (pos 63)))
-    in-range =
+    pub in_range : T (le (fin true 1 (pos 63)) x) × T (lt x (fin false 1 (pos 63)))
+    in_range =
         let k = go f u.s bounded.1 in (
           le_of_signed (fin true 1 (pos 63)) x true (2 ^ 63) 1 u.s u.d u.w (pow_pos 0) u.W (refl, refl) u.v k.0,
           lt_by u (its_own false 1 (pos 63)) k.1,
@@ -235,16 +235,16 @@ module _ (f : Format) (x size : Float) (fit : fits f x ≡ true) (is : size ≡ 
     -- n is x without its fraction, and y the float that it makes
     module _ (n : ℤ) (cut : n ≡ to_signed 63 x) where
       n_is : n ≡ signed u.s q
-      n_is = cut ∙ toward_zero x u q-under.1
+      n_is = cut ∙ toward_zero x u q_under.1
 
-      pub cut-casts : T (in_float f n)
-      cut-casts = rw n_is (may_be_float f u.s q (le_of_lt q-under.0))
+      pub cut_casts : T (in_float f n)
+      cut_casts = rw n_is (may_be_float f u.s q (le_of_lt q_under.0))
 
       module _ (large : lt size (of_bits f (one f)) ≡ false) where
         y_is : HasValue (of_int f n) u.s q 1
         y_is =
             let o = from x u (of_bits f (one f)) 1 (one_is f) (test (one f) false large) in
-            rw n_is (as_float f u.s q ((le-div_iff_mul-le u.W).1 o) (le_of_lt q-under.0))
+            rw n_is (as_float f u.s q ((le-div_iff_mul-le u.W).1 o) (le_of_lt q_under.0))
 
         abbrev y : Ratio (of_int f n)
         y = whole (of_int f n) u.s q y_is
@@ -260,14 +260,14 @@ module _ (f : Format) (x size : Float) (fit : fits f x ≡ true) (is : size ≡ 
         pub one_less : lt x (of_int f n) ≡ true → sub f (of_int f n) (of_bits f (one f)) ≡ floor_s f x
         one_less h =
             let z = above (lt_means u y h) in
-            ratio_falls f u z.1 q-under.0 (sub f (of_int f n) (of_bits f (one f))) (sub-fits f (of_int f n) (of_bits f (one f)))
-            (rw z.0 (next_down f (of_int f n) q (rw z.0 at y_is) q-under.0))
+            ratio_falls f u z.1 q_under.0 (sub f (of_int f n) (of_bits f (one f))) (sub-fits f (of_int f n) (of_bits f (one f)))
+            (rw z.0 (next_down f (of_int f n) q (rw z.0 at y_is) q_under.0))
 
         pub cut_off : lt x (of_int f n) ≡ false → of_int f n ≡ floor_s f x
         cut_off h =
             elim (eq-zero-or-pos (u.d % u.w)) [
               | inl z ↦ all z
-              | inr r ↦ ratio_falls f u r q-under.0 (of_int f n) (of_int-fits f n) (go u.s y_is r (not_lt_means u y h))
+              | inr r ↦ ratio_falls f u r q_under.0 (of_int f n) (of_int-fits f n) (go u.s y_is r (not_lt_means u y h))
             ]
           where
             -- nothing was cut off

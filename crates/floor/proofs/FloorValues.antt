@@ -136,8 +136,8 @@ module _ (f : Format) (s : Bool) (m : ℕ) (e : ℤ) where
 
   module _ (F : T (fits f (fin s m e))) where
     -- any other number differs from it
-    pub floor-differs : (m * up e % down e ≡ 0 → ⊥) → eq (fin s m e) (floor_s f (fin s m e)) ≡ false
-    floor-differs h =
+    pub floor_differs : (m * up e % down e ≡ 0 → ⊥) → eq (fin s m e) (floor_s f (fin s m e)) ≡ false
+    floor_differs h =
         let M = m * up e in
         let D = down e in
         let n = size_below s (M / D) in
@@ -152,17 +152,17 @@ module _ (f : Format) (s : Bool) (m : ℕ) (e : ℤ) where
         less p = omega arith
 
     -- so what passes the test is whole
-    pub floor-whole : eq (fin s m e) (floor_s f (fin s m e)) ≡ true → m * up e % down e ≡ 0
-    floor-whole t =
+    pub floor_whole : eq (fin s m e) (floor_s f (fin s m e)) ≡ true → m * up e % down e ≡ 0
+    floor_whole t =
         elim (eq-zero-or-pos (m * up e % down e)) [
           | inl z ↦ z
-          | inr p ↦ absurd (true≢false (sym t ∙ floor-differs (λ z. lt_irrefl 0 (subst (λ (n : ℕ). 0 < n) z p))))
+          | inr p ↦ absurd (true≢false (sym t ∙ floor_differs (λ z. lt_irrefl 0 (subst (λ (n : ℕ). 0 < n) z p))))
         ]
 
     -- ---- the floor is at most x
-    pub floor-at-most : T (le (floor_s f (fin s m e)) (fin s m e))
+    pub floor_at_most : T (le (floor_s f (fin s m e)) (fin s m e))
     unfolding floor_s
-    floor-at-most = go (eqb (m * up e % down e) 0) s F
+    floor_at_most = go (eqb (m * up e % down e) 0) s F
       where
         go : (b : Bool) (s : Bool) → T (fits f (fin s m e)) → T (le (cond b (fin s m e) (of_int f (below s (m * up e / down e)))) (fin s m e))
         go true s F = le_refl (fin s m e) tt

@@ -27,35 +27,35 @@ module _ (p : Plan) where
 
   -- ---- segment_at
   module _ (ix : ℕ) (x : Float) where
-    pub zero-to-0·9 : ix ≤ p.to0·9 → p.at0·7316 ≤ ix → record { i = 0; y = p.1·0 ⊖ x } ≡ segment_s p ix x
+    pub zero_to_0·9 : ix ≤ p.to0·9 → p.at0·7316 ≤ ix → record { i = 0; y = p.1·0 ⊖ x } ≡ segment_s p ix x
     unfolding segment_s
-    zero-to-0·9 h k = simp (le-leb _ _ h, le-leb _ _ k)
+    zero_to_0·9 h k = simp (le-leb _ _ h, le-leb _ _ k)
 
-    pub one-to-0·9 : ix ≤ p.to0·9 → ix < p.at0·7316 → p.at0·2316 ≤ ix → record { i = 1; y = x ⊖ (p.TC ⊖ p.1·0) } ≡ segment_s p ix x
+    pub one_to_0·9 : ix ≤ p.to0·9 → ix < p.at0·7316 → p.at0·2316 ≤ ix → record { i = 1; y = x ⊖ (p.TC ⊖ p.1·0) } ≡ segment_s p ix x
     unfolding segment_s
-    one-to-0·9 h k l = simp (le-leb _ _ h, lt-leb _ _ k, le-leb _ _ l)
+    one_to_0·9 h k l = simp (le-leb _ _ h, lt-leb _ _ k, le-leb _ _ l)
 
-    pub two-to-0·9 : ix ≤ p.to0·9 → ix < p.at0·7316 → ix < p.at0·2316 → record { i = 2; y = x } ≡ segment_s p ix x
+    pub two_to_0·9 : ix ≤ p.to0·9 → ix < p.at0·7316 → ix < p.at0·2316 → record { i = 2; y = x } ≡ segment_s p ix x
     unfolding segment_s
-    two-to-0·9 h k l = simp (le-leb _ _ h, lt-leb _ _ k, lt-leb _ _ l)
+    two_to_0·9 h k l = simp (le-leb _ _ h, lt-leb _ _ k, lt-leb _ _ l)
 
-    pub zero-above-0·9 : p.to0·9 < ix → p.at1·7316 ≤ ix → record { i = 0; y = p.2·0 ⊖ x } ≡ segment_s p ix x
+    pub zero_above_0·9 : p.to0·9 < ix → p.at1·7316 ≤ ix → record { i = 0; y = p.2·0 ⊖ x } ≡ segment_s p ix x
     unfolding segment_s
-    zero-above-0·9 h k = simp (lt-leb _ _ h, le-leb _ _ k)
+    zero_above_0·9 h k = simp (lt-leb _ _ h, le-leb _ _ k)
 
-    pub one-above-0·9 : p.to0·9 < ix → ix < p.at1·7316 → p.at1·2316 ≤ ix → record { i = 1; y = x ⊖ p.TC } ≡ segment_s p ix x
+    pub one_above_0·9 : p.to0·9 < ix → ix < p.at1·7316 → p.at1·2316 ≤ ix → record { i = 1; y = x ⊖ p.TC } ≡ segment_s p ix x
     unfolding segment_s
-    one-above-0·9 h k l = simp (lt-leb _ _ h, lt-leb _ _ k, le-leb _ _ l)
+    one_above_0·9 h k l = simp (lt-leb _ _ h, lt-leb _ _ k, le-leb _ _ l)
 
-    pub two-above-0·9 : p.to0·9 < ix → ix < p.at1·7316 → ix < p.at1·2316 → record { i = 2; y = x ⊖ p.1·0 } ≡ segment_s p ix x
+    pub two_above_0·9 : p.to0·9 < ix → ix < p.at1·7316 → ix < p.at1·2316 → record { i = 2; y = x ⊖ p.1·0 } ≡ segment_s p ix x
     unfolding segment_s
-    two-above-0·9 h k l = simp (lt-leb _ _ h, lt-leb _ _ k, lt-leb _ _ l)
+    two_above_0·9 h k l = simp (lt-leb _ _ h, lt-leb _ _ k, lt-leb _ _ l)
 
   -- ---- below2, where segment_at gives s and added gives a
   module _ (ix : ℕ) (x : Float) {a : Float} {s : Segment} (es : s ≡ segment_s p ix x) (ea : a ≡ added_s p s) where
-    pub below2-by : {l : Float} → l ≡ pick (leb ix p.to0·9) (neg (p.log x)) p.0·0 → l ⊕ a ≡ below2_s p ix x
+    pub below2_by : {l : Float} → l ≡ pick (leb ix p.to0·9) (neg (p.log x)) p.0·0 → l ⊕ a ≡ below2_s p ix x
     unfolding below2_s
-    below2-by el = rw (el, ea, es)
+    below2_by el = rw (el, ea, es)
 
   -- ---- below8, where whole gives i, and n is i as a float. P and Q are the values of the polynomials S and R
   module _ (x : Float) {n P Q : Float} {i : ℤ} (ei : i ≡ whole_s x) (en : n ≡ of_int p.format (to_z w32 (of_z w32 i)))
@@ -80,22 +80,22 @@ module _ (p : Plan) where
     one_or_two t = simp (rw e at t)
 
     module _ (t : b ≡ false) {r : Float} where
-      pub size-below2 : ix < p.at2 → r ≡ below2_s p ix x → r ≡ size_s p ix x
+      pub size_below2 : ix < p.at2 → r ≡ below2_s p ix x → r ≡ size_s p ix x
       unfolding size_s
-      size-below2 h er = simp (rw e at t, lt-ltb _ _ h) er
+      size_below2 h er = simp (rw e at t, lt-ltb _ _ h) er
 
-      pub size-below8 : p.at2 ≤ ix → ix < p.at8 → r ≡ below8_s p x → r ≡ size_s p ix x
+      pub size_below8 : p.at2 ≤ ix → ix < p.at8 → r ≡ below8_s p x → r ≡ size_s p ix x
       unfolding size_s
-      size-below8 h k er = simp (rw e at t, le-ltb _ _ h, lt-ltb _ _ k) er
+      size_below8 h k er = simp (rw e at t, le-ltb _ _ h, lt-ltb _ _ k) er
 
-      pub size-stirling : p.at2 ≤ ix → p.at8 ≤ ix → ix < p.at2^58 → r ≡ stirling_s p x → r ≡ size_s p ix x
+      pub size_stirling : p.at2 ≤ ix → p.at8 ≤ ix → ix < p.at2^58 → r ≡ stirling_s p x → r ≡ size_s p ix x
       unfolding size_s
-      size-stirling h k l er = simp (rw e at t, le-ltb _ _ h, le-ltb _ _ k, lt-ltb _ _ l) er
+      size_stirling h k l er = simp (rw e at t, le-ltb _ _ h, le-ltb _ _ k, lt-ltb _ _ l) er
 
       -- where log gives r
-      pub size-large : p.at2 ≤ ix → p.at8 ≤ ix → p.at2^58 ≤ ix → r ≡ p.log x → x ⊗ (r ⊖ p.1·0) ≡ size_s p ix x
+      pub size_large : p.at2 ≤ ix → p.at8 ≤ ix → p.at2^58 ≤ ix → r ≡ p.log x → x ⊗ (r ⊖ p.1·0) ≡ size_s p ix x
       unfolding size_s
-      size-large h k l er = simp (rw e at t, le-ltb _ _ h, le-ltb _ _ k, le-ltb _ _ l) (rw er)
+      size_large h k l er = simp (rw e at t, le-ltb _ _ h, le-ltb _ _ k, le-ltb _ _ l) (rw er)
 
   -- an answer's value and sign
   abbrev Is : Float → ℤ → Answer → Type 0
@@ -103,20 +103,20 @@ module _ (p : Plan) where
 
   -- ---- reflected, where log gives l and size gives r
   module _ (ix : ℕ) (x t : Float) {v : Float} {s : ℤ} where
-    pub sine-zero : Ieee.eq t p.0·0 ≡ true → Is v s (record { value = p.1·0 ⊘ (x ⊖ x); sign = pos 1 }) → Is v s (reflected_s p ix x t)
+    pub sine_zero : Ieee.eq t p.0·0 ≡ true → Is v s (record { value = p.1·0 ⊘ (x ⊖ x); sign = pos 1 }) → Is v s (reflected_s p ix x t)
     unfolding reflected_s
-    sine-zero z a = simp z a
+    sine_zero z a = simp z a
 
     module _ {l r : Float} (er : r ≡ size_s p ix x) (z : Ieee.eq t p.0·0 ≡ false) where
-      pub sine-above : l ≡ p.log (p.PI ⊘ (t ⊗ x)) → Ieee.lt p.0·0 t ≡ true
+      pub sine_above : l ≡ p.log (p.PI ⊘ (t ⊗ x)) → Ieee.lt p.0·0 t ≡ true
           → Is v s (record { value = l ⊖ r; sign = negsuc 0 }) → Is v s (reflected_s p ix x t)
       unfolding reflected_s
-      sine-above el h a = simp (z, h) (rw (el, er) at a)
+      sine_above el h a = simp (z, h) (rw (el, er) at a)
 
-      pub sine-below : l ≡ p.log (p.PI ⊘ (neg t ⊗ x)) → Ieee.lt p.0·0 t ≡ false
+      pub sine_below : l ≡ p.log (p.PI ⊘ (neg t ⊗ x)) → Ieee.lt p.0·0 t ≡ false
           → Is v s (record { value = l ⊖ r; sign = pos 1 }) → Is v s (reflected_s p ix x t)
       unfolding reflected_s
-      sine-below el h a = simp (z, h) (rw (el, er) at a)
+      sine_below el h a = simp (z, h) (rw (el, er) at a)
 
   -- ---- lgamma_r
   -- of a NaN it is the NaN, and the sign is plus
@@ -137,9 +137,9 @@ module _ (p : Plan) where
       unfolding lgamma_s
       tiny_plus t g el a = simp (lt-leb _ _ (rw ei at n), lt-ltb _ _ (rw ei at t), eq-eqb _ _ (rw eg at g)) (rw el at a)
 
-      pub tiny-minus : ix < p.tiny → (sign ≡ 0 → ⊥) → l ≡ p.log (neg x) → Is v s (record { value = neg l; sign = negsuc 0 }) → Is v s (lgamma_s p x)
+      pub tiny_minus : ix < p.tiny → (sign ≡ 0 → ⊥) → l ≡ p.log (neg x) → Is v s (record { value = neg l; sign = negsuc 0 }) → Is v s (lgamma_s p x)
       unfolding lgamma_s
-      tiny-minus t g el a = simp (lt-leb _ _ (rw ei at n), lt-ltb _ _ (rw ei at t), ne_eqb _ _ (rw eg at g)) (rw el at a)
+      tiny_minus t g el a = simp (lt-leb _ _ (rw ei at n), lt-ltb _ _ (rw ei at t), ne_eqb _ _ (rw eg at g)) (rw el at a)
 
       pub plus : p.tiny ≤ ix → sign ≡ 0 → l ≡ size_s p ix x → Is v s (record { value = l; sign = pos 1 }) → Is v s (lgamma_s p x)
       unfolding lgamma_s

@@ -69,17 +69,17 @@ module _ (p : Plan) (r : Regular p) where
     x = fin true m e
 
     -- below the tiny cut: no whole number, and a whole part of 0
-    tiny-sign : ltb (p.ix x) p.tiny ≡ true → (Plan.lgamma_s p x).sign ≡ negsuc 0
+    tiny_sign : ltb (p.ix x) p.tiny ≡ true → (Plan.lgamma_s p x).sign ≡ negsuc 0
     unfolding Plan.lgamma_s
-    tiny-sign t = rw (lt-leb p.not_finite _ (r.ix_finite true m e F), sign_of_is f true m e F, t) refl
+    tiny_sign t = rw (lt-leb p.not_finite _ (r.ix_finite true m e F), sign_of_is f true m e F, t) refl
 
-    tiny-below : 0 < m → ltb (p.ix x) p.tiny ≡ true → m * up e < down e
-    tiny-below M t = below_one_holds r.n m e M (r.upto_tiny m e F (ltb-true (p.ix x) p.tiny t))
+    tiny_below : 0 < m → ltb (p.ix x) p.tiny ≡ true → m * up e < down e
+    tiny_below M t = below_one_holds r.n m e M (r.upto_tiny m e F (ltb-true (p.ix x) p.tiny t))
 
     -- from it on: the reflection
-    reflected-is : ltb (p.ix x) p.tiny ≡ false → Plan.lgamma_s p x ≡ reflected_s p (p.ix x) (fin false m e) (p.sin_pi (fin false m e))
+    reflected_is : ltb (p.ix x) p.tiny ≡ false → Plan.lgamma_s p x ≡ reflected_s p (p.ix x) (fin false m e) (p.sin_pi (fin false m e))
     unfolding Plan.lgamma_s neg
-    reflected-is t = rw (lt-leb p.not_finite _ (r.ix_finite true m e F), sign_of_is f true m e F, t) refl
+    reflected_is t = rw (lt-leb p.not_finite _ (r.ix_finite true m e F), sign_of_is f true m e F, t) refl
 
     from_least : ltb (p.ix x) p.tiny ≡ false → T (le (fin false 1 (negsuc r.n)) (fin false m e))
     from_least t = r.from_tiny m e F (ltb-false (p.ix x) p.tiny t)
@@ -92,34 +92,34 @@ module _ (p : Plan) (r : Regular p) where
     at_pole M w = go (ltb (p.ix x) p.tiny) refl
       where
         go : (b : Bool) → ltb (p.ix x) p.tiny ≡ b → Plan.lgamma_s p x ≡ record { value = inf false; sign = pos 1 }
-        go true t = absurd (lt_irrefl 0 (subst (λ (n : ℕ). 0 < n) (sym (mod-eq_of_lt (tiny-below M t)) ∙ w) (mul-pos M (up_pos e))))
-        go false t = reflected-is t ∙ pole p r (p.ix x) m e F' (from_least t) w
+        go true t = absurd (lt_irrefl 0 (subst (λ (n : ℕ). 0 < n) (sym (mod-eq_of_lt (tiny_below M t)) ∙ w) (mul-pos M (up_pos e))))
+        go false t = reflected_is t ∙ pole p r (p.ix x) m e F' (from_least t) w
 
     -- elsewhere -1 where the whole part of the size is even
     pub minus_even : (m * up e % down e ≡ 0 → ⊥) → m * up e / down e % 2 ≡ 0 → (Plan.lgamma_s p x).sign ≡ negsuc 0
     minus_even w d = go (ltb (p.ix x) p.tiny) refl
       where
         go : (b : Bool) → ltb (p.ix x) p.tiny ≡ b → (Plan.lgamma_s p x).sign ≡ negsuc 0
-        go true t = tiny-sign t
-        go false t = ap (λ (a : Answer). a.sign) (reflected-is t) ∙ sign_even p r (p.ix x) m e F' (from_least t) w d
+        go true t = tiny_sign t
+        go false t = ap (λ (a : Answer). a.sign) (reflected_is t) ∙ sign_even p r (p.ix x) m e F' (from_least t) w d
 
     -- and +1 where it is odd
     pub minus_odd : 0 < m → (m * up e % down e ≡ 0 → ⊥) → m * up e / down e % 2 ≡ 1 → (Plan.lgamma_s p x).sign ≡ pos 1
     minus_odd M w d = go (ltb (p.ix x) p.tiny) refl
       where
         go : (b : Bool) → ltb (p.ix x) p.tiny ≡ b → (Plan.lgamma_s p x).sign ≡ pos 1
-        go true t = absurd (clash (m * up e / down e) (div-eq_of_lt (tiny-below M t)) d)
+        go true t = absurd (clash (m * up e / down e) (div-eq_of_lt (tiny_below M t)) d)
           where
             clash : (q : ℕ) → q ≡ 0 → q % 2 ≡ 1 → ⊥
             clash q z d = omega arith
-        go false t = ap (λ (a : Answer). a.sign) (reflected-is t) ∙ sign_odd p r (p.ix x) m e F' (from_least t) w d
+        go false t = ap (λ (a : Answer). a.sign) (reflected_is t) ∙ sign_odd p r (p.ix x) m e F' (from_least t) w d
 
     -- -1 at -0
     pub minus_zero : m ≡ 0 → (Plan.lgamma_s p x).sign ≡ negsuc 0
     minus_zero z = go (ltb (p.ix x) p.tiny) refl
       where
         go : (b : Bool) → ltb (p.ix x) p.tiny ≡ b → (Plan.lgamma_s p x).sign ≡ negsuc 0
-        go true t = tiny-sign t
+        go true t = tiny_sign t
         go false t =
             absurd (lt_irrefl 0 (subst (λ (n : ℕ). 0 < n) z (ltb→lt 0 m (above_of_le (fin false 1 (negsuc r.n)) (fin false m e) tt (from_least t)))))
 

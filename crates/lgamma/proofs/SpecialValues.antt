@@ -56,19 +56,19 @@ module _ (p : Plan) (r : Regular p) where
       simp (lt-leb _ _ k.finite_ix, le-ltb _ _ k.not_tiny, eq-eqb _ _ k.plus_sign, k.known) (ap plus r.zero_is)
 
   module _ (k : Special p) where
-    finite-zero : (s : Bool) → p.ix (fin s 0 (pos 0)) < p.not_finite
-    finite-zero s = r.ix_finite s 0 (pos 0) (k.zero_fits s)
+    finite_zero : (s : Bool) → p.ix (fin s 0 (pos 0)) < p.not_finite
+    finite_zero s = r.ix_finite s 0 (pos 0) (k.zero_fits s)
 
-    at-plus-zero : Plan.lgamma_s p zero+ ≡ plus (inf false)
+    at_plus_zero : Plan.lgamma_s p zero+ ≡ plus (inf false)
     unfolding Plan.lgamma_s neg
-    at-plus-zero =
-        simp (lt-leb _ _ (finite-zero false), lt-ltb _ _ (k.zero_ix false), sign_of_is p.format false 0 (pos 0) (k.zero_fits false))
+    at_plus_zero =
+        simp (lt-leb _ _ (finite_zero false), lt-ltb _ _ (k.zero_ix false), sign_of_is p.format false 0 (pos 0) (k.zero_fits false))
         (ap (λ (v : Float). plus (neg v)) k.log_of_zero)
 
-    at-negative-zero : Plan.lgamma_s p (fin true 0 (pos 0)) ≡ minus (inf false)
+    at_negative_zero : Plan.lgamma_s p (fin true 0 (pos 0)) ≡ minus (inf false)
     unfolding Plan.lgamma_s neg
-    at-negative-zero =
-        simp (lt-leb _ _ (finite-zero true), lt-ltb _ _ (k.zero_ix true), sign_of_is p.format true 0 (pos 0) (k.zero_fits true))
+    at_negative_zero =
+        simp (lt-leb _ _ (finite_zero true), lt-ltb _ _ (k.zero_ix true), sign_of_is p.format true 0 (pos 0) (k.zero_fits true))
         (ap (λ (v : Float). minus (neg v)) k.log_of_zero)
 
     pub annex_f : AnnexF p
@@ -78,8 +78,8 @@ module _ (p : Plan) (r : Regular p) where
       at_infinity = λ s. rw (le-leb p.not_finite (p.ix (inf s)) (r.ix_inf s)) (elim s [ true ↦ refl | false ↦ refl ]);
       at_one = one_or_two p.1·0 k.one;
       at_two = one_or_two p.2·0 k.two;
-      at_zero = at-plus-zero;
-      at_minus_zero = at-negative-zero;
+      at_zero = at_plus_zero;
+      at_minus_zero = at_negative_zero;
     }
 
 -- ---- lgamma_r

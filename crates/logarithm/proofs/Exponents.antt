@@ -69,5 +69,5 @@ module _ (e b : ℕ) (h : e < 8192) (i : b < 8192) where
     sum_fits s =
         subst (SFits w32) (sym sum_is) (small_fits (k +ℤ (pos e -ℤ pos b)) (omega (arith, sum_small e b h i k s)))
 
-    pub sum-held : nat_abs k < 64 → held (held k +ℤ held (power e b)) ≡ k +ℤ (pos e -ℤ pos b)
-    sum-held s = to_z-of_z w32 (held k +ℤ held (power e b)) (sum_fits s) ∙ sum_is
+    pub sum_held : nat_abs k < 64 → held (held k +ℤ held (power e b)) ≡ k +ℤ (pos e -ℤ pos b)
+    sum_held s = to_z-of_z w32 (held k +ℤ held (power e b)) (sum_fits s) ∙ sum_is

@@ -133,8 +133,8 @@ module _ (p·l p·h : Float) (s : Bool) (A : ℕ) (u : Bool) (B : ℕ) (vl : Has
     up : j % 0x80000000 ≤ 0x4090CC00
     up = omega (arith, high)
 
-    t-value : 0x3FE00000 < j % 0x80000000 → HasValue (t_of_word j) w (amount j * 2 ^ 1074) (2 ^ 1074)
-    t-value low = go w z-is
+    t_value : 0x3FE00000 < j % 0x80000000 → HasValue (t_of_word j) w (amount j * 2 ^ 1074) (2 ^ 1074)
+    t_value low = go w z-is
       where
         go : (w : Bool) → to_bits binary64 (p·l ⊕ p·h) ≡ signed w b → HasValue (t_of_word j) w (amount j * 2 ^ 1074) (2 ^ 1074)
         go false e = t_plus j low up (word_lt (to_bits binary64 (p·l ⊕ p·h)) b b_lt false e) (word_plus (to_bits binary64 (p·l ⊕ p·h)) b b_lt e)
@@ -151,7 +151,7 @@ module _ (p·l p·h : Float) (s : Bool) (A : ℕ) (u : Bool) (B : ℕ) (vl : Has
         let n-le : 2 * n ≤ 2 * Z + L = subst (λ (k : ℕ). 2 * n ≤ 2 * k + L) (sym Z-is) near.0 in
         let Z-near : 2 * Z ≤ 2 * n + L + D = subst (λ (k : ℕ). 2 * k ≤ 2 * n + L + D) (sym Z-is) near.1 in
         let r = n_room A B Z n E L small (size_of_sum w Z s A u B E sum) n-le fine in
-        let g = difference_near p·h t u B w n vh (t-value low) r.0 in
+        let g = difference_near p·h t u B w n vh (t_value low) r.0 in
         let G = g.1 in
         let q = g_room A B G n E L small r.1 (size_of_difference g.0 G u B w n E g.3) fine in
         let a = sum_near p·l (p·h ⊖ t) s A g.0 G vl g.2 q.1 in

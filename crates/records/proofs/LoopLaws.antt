@@ -75,8 +75,8 @@ module _ (S : List ℕ → ℕ → Out) (law : Lawful S) (s first a b : List ℕ
     went = (law (drop t.read s) (length a - t.written)).goes (λ h. z (ap (λ (x : Tally). x.records) d.tally ∙ h))
 
     -- it took something
-    pub going-further : 0 < r.tally.read
-    going-further = omega (arith, ap (λ (x : Tally). x.read) d.tally, went.1.0)
+    pub going_further : 0 < r.tally.read
+    going_further = omega (arith, ap (λ (x : Tally). x.read) d.tally, went.1.0)
 
     more : Going S s first b (t ⊞ o.tally)
     more =

@@ -59,11 +59,11 @@ module _ (T : List Row) (s : List ℕ) (at room w : ℕ) (h : at < length s) (ew
       at_front T s at room w x h ew refl ∙ choose_cut w (length s - (at + 1)) room x z l
 
   module _ (x : List ℕ) (ex : x ≡ bytes_of ((row_in T (get_or s at 0)).reply (word w (drop (at + 1) s)))) (z : w ≡ 0 → ⊥) (l : w ≤ length s - (at + 1)) where
-    pub at-full : room < length x → one T (drop at s) room ≡ stop FULL
-    at-full f = at_front T s at room w x h ew ex ∙ choose_full w (length s - (at + 1)) room x z l f
+    pub at_full : room < length x → one T (drop at s) room ≡ stop FULL
+    at_full f = at_front T s at room w x h ew ex ∙ choose_full w (length s - (at + 1)) room x z l f
 
-    pub at-whole : length x ≤ room → one T (drop at s) room ≡ took w x
-    at-whole f = at_front T s at room w x h ew ex ∙ choose_whole w (length s - (at + 1)) room x z l f
+    pub at_whole : length x ≤ room → one T (drop at s) room ≡ took w x
+    at_whole f = at_front T s at room w x h ew ex ∙ choose_whole w (length s - (at + 1)) room x z l f
 
 pub did_stop : (o : Out) (r : Report) (c out : ℕ) (a : List ℕ) → r ≡ record { code = c; tally = nothing } → o ≡ stop c → Did o r out a a
 did_stop o r c out a er eo = rw (er, eo) (record { code = refl; tally = refl; buffer = refl })

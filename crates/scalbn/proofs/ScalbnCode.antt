@@ -103,28 +103,28 @@ module _ (f : Format) (n : ℤ) (F : SFits w32 n) (above : lt_z (exp_max f) n �
   up_once x t = simp (up1_is, rw up1_is at t)
 
   module _ (again : lt_z (exp_max f) up1 ≡ true) where
-    n1-above : lt_z (exp_max f) (n -ℤ exp_max f) ≡ true
-    n1-above = rw up1_is at again
+    n1_above : lt_z (exp_max f) (n -ℤ exp_max f) ≡ true
+    n1_above = rw up1_is at again
 
-    n2-fits : SFits w32 (n -ℤ exp_max f -ℤ exp_max f)
-    n2-fits = less_than_max f (n -ℤ exp_max f) n1_fits n1-above
+    n2_fits : SFits w32 (n -ℤ exp_max f -ℤ exp_max f)
+    n2_fits = less_than_max f (n -ℤ exp_max f) n1_fits n1_above
 
-    up2-is : up2 ≡ n -ℤ exp_max f -ℤ exp_max f
-    up2-is = ap (λ (v : ℤ). local (v -ℤ exp_max f)) up1_is ∙ to_z-of_z w32 (n -ℤ exp_max f -ℤ exp_max f) n2-fits
+    up2_is : up2 ≡ n -ℤ exp_max f -ℤ exp_max f
+    up2_is = ap (λ (v : ℤ). local (v -ℤ exp_max f)) up1_is ∙ to_z-of_z w32 (n -ℤ exp_max f -ℤ exp_max f) n2_fits
 
-    pub up2-fits : SFits w32 (up1 -ℤ exp_max f)
-    up2-fits = rw up1_is n2-fits
+    pub up2_fits : SFits w32 (up1 -ℤ exp_max f)
+    up2_fits = rw up1_is n2_fits
 
-    pub up2-normal : lt_z (exp_max f) up2 ≡ false → Normal f up2
-    up2-normal t = (rw up2-is (less_from_min f (n -ℤ exp_max f) n1-above), t)
+    pub up2_normal : lt_z (exp_max f) up2 ≡ false → Normal f up2
+    up2_normal t = (rw up2_is (less_from_min f (n -ℤ exp_max f) n1_above), t)
 
-    pub up-twice : (x : Float) → lt_z (exp_max f) up2 ≡ false → mul f (x2 x) (power2 f up2) ≡ up_s f x n
+    pub up_twice : (x : Float) → lt_z (exp_max f) up2 ≡ false → mul f (x2 x) (power2 f up2) ≡ up_s f x n
     unfolding up_s
-    up-twice x t = simp (up2-is, n1-above, rw up2-is at t)
+    up_twice x t = simp (up2_is, n1_above, rw up2_is at t)
 
-    pub up-thrice : (x : Float) → lt_z (exp_max f) up2 ≡ true → mul f (x2 x) (power2 f (exp_max f)) ≡ up_s f x n
+    pub up_thrice : (x : Float) → lt_z (exp_max f) up2 ≡ true → mul f (x2 x) (power2 f (exp_max f)) ≡ up_s f x n
     unfolding up_s
-    up-thrice x t = simp (n1-above, rw up2-is at t)
+    up_thrice x t = simp (n1_above, rw up2_is at t)
 
 -- ---- n < exp_min
 -- -exp_min - sig_total_bits
@@ -167,28 +167,28 @@ module _ (f : Format) (n : ℤ) (F : SFits w32 n) (below : lt_z n (exp_min f) �
   down_once x t = simp (down1_is, rw down1_is at t)
 
   module _ (again : lt_z down1 (exp_min f) ≡ true) where
-    m1-below : lt_z (n +ℤ add f) (exp_min f) ≡ true
-    m1-below = rw down1_is at again
+    m1_below : lt_z (n +ℤ add f) (exp_min f) ≡ true
+    m1_below = rw down1_is at again
 
-    m2-fits : SFits w32 (n +ℤ add f +ℤ add f)
-    m2-fits = more_than_min f (n +ℤ add f) m1_fits m1-below
+    m2_fits : SFits w32 (n +ℤ add f +ℤ add f)
+    m2_fits = more_than_min f (n +ℤ add f) m1_fits m1_below
 
-    down2-is : down2 ≡ n +ℤ add f +ℤ add f
-    down2-is = ap (λ (v : ℤ). local (v +ℤ add f)) down1_is ∙ to_z-of_z w32 (n +ℤ add f +ℤ add f) m2-fits
+    down2_is : down2 ≡ n +ℤ add f +ℤ add f
+    down2_is = ap (λ (v : ℤ). local (v +ℤ add f)) down1_is ∙ to_z-of_z w32 (n +ℤ add f +ℤ add f) m2_fits
 
-    pub down2-fits : SFits w32 (down1 +ℤ add f)
-    down2-fits = rw down1_is m2-fits
+    pub down2_fits : SFits w32 (down1 +ℤ add f)
+    down2_fits = rw down1_is m2_fits
 
-    pub down2-normal : lt_z down2 (exp_min f) ≡ false → Normal f down2
-    down2-normal t = (t, rw down2-is (more_to_max f (n +ℤ add f) m1-below))
+    pub down2_normal : lt_z down2 (exp_min f) ≡ false → Normal f down2
+    down2_normal t = (t, rw down2_is (more_to_max f (n +ℤ add f) m1_below))
 
-    pub down-twice : (x : Float) → lt_z down2 (exp_min f) ≡ false → mul f (mul f (mul f x scale) scale) (power2 f down2) ≡ down_s f x n
+    pub down_twice : (x : Float) → lt_z down2 (exp_min f) ≡ false → mul f (mul f (mul f x scale) scale) (power2 f down2) ≡ down_s f x n
     unfolding down_s
-    down-twice x t = simp (down2-is, m1-below, rw down2-is at t)
+    down_twice x t = simp (down2_is, m1_below, rw down2_is at t)
 
-    pub down-thrice : (x : Float) → lt_z down2 (exp_min f) ≡ true → mul f (mul f (mul f x scale) scale) (power2 f (exp_min f)) ≡ down_s f x n
+    pub down_thrice : (x : Float) → lt_z down2 (exp_min f) ≡ true → mul f (mul f (mul f x scale) scale) (power2 f (exp_min f)) ≡ down_s f x n
     unfolding down_s
-    down-thrice x t = simp (m1-below, rw down2-is at t)
+    down_thrice x t = simp (m1_below, rw down2_is at t)
 
 -- ---- every n
 module _ (f : Format) (x : Float) (n : ℤ) (F : SFits w32 n) where

@@ -22,7 +22,7 @@ use Rattle.decide.specs.Decide.{closing_s}
 use Rattle.decide.proofs.DecideLaws.{closing_is}
 use Rattle.session.specs.Session.{Heard, brought, piece, Event, Said, session, Fits, delivered, Some}
 use Rattle.session.specs.Post.{Served}
-use Rattle.session.proofs.SayLaws.{one_or, input, Front, end_came, stop-came, more-came, front_of, ended}
+use Rattle.session.proofs.SayLaws.{one_or, input, Front, end_came, stop_came, more_came, front_of, ended}
 use Rattle.serve.specs.Session.{there, done, left, answering, closed}
 
 -- what a batch adds to what the later turns say, where it closes and where it goes on
@@ -62,10 +62,10 @@ module _ (size room : ℕ) (h : 2 * size ≤ room) where
       let t = left room rest (brought p) in
       ⊎_elim
       (λ u.
-      stop-came (answering room) rest p (delivered ps) u ∙ closes o (small rest (brought p) f.0)
+      stop_came (answering room) rest p (delivered ps) u ∙ closes o (small rest (brought p) f.0)
       ∙ ap closed (sym (stays rest p ps (roomy rest (p ∷ ps) f) u)))
       (λ u.
-      more-came (answering room) rest p (delivered ps) u s.0
+      more_came (answering room) rest p (delivered ps) u s.0
       ∙ ap (λ (x : Said). record { bytes = o.bytes ++ x.bytes; code = x.code }) (by_pieces t ps s.1 f.1)
       ∙ goes_on o (pieces table room t ps))
       (one_or o.code)

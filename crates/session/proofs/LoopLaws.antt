@@ -63,12 +63,12 @@ module _ (P : Program) (size : ℕ) where
     unfolding Stops
     stop y e later h = g.stops (p.event ∷ later) (subst (λ (z : Next). StopsOr z (Stops P this.left later)) (sym (sym p.next ∙ e)) h)
 
-    pub going-close : (c : ℕ) → x ≡ Close c → Ran P size c
-    going-close c e =
+    pub going_close : (c : ℕ) → x ≡ Close c → Ran P size c
+    going_close c e =
         record { events = g.events ++ (p.event ∷ []); fits = inside [] tt; full = inl (stop (Close c) e [] tt); code = sym (turn (Close c) e []) }
 
-    pub going-break : x ≡ Break → Ran P size 255
-    going-break e =
+    pub going_break : x ≡ Break → Ran P size 255
+    going_break e =
         record { events = g.events ++ (p.event ∷ []); fits = inside [] tt; full = inl (stop Break e [] tt); code = sym (turn Break e []) }
 
     pub going_on : (kept : ℕ) → x ≡ Go kept → 0 < turns → Going P size (turns - 1) (take kept b)

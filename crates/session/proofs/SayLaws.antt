@@ -1,5 +1,5 @@
 -- What any program says over its events, turn by turn. Assumes nothing.
---     end_came, stop-came, more-came    a turn over an input that comes in pieces, where nothing fails
+--     end_came, stop_came, more_came    a turn over an input that comes in pieces, where nothing fails
 --     breaks_by_failure  255 tells of a failure, or of 2 ^ 64 - 1 turns
 --     ends_whole         another code tells that the input ended, and that nothing failed before
 --     coded, ended       what holds of the code of every turn, and of 255, holds of what the program gives back
@@ -54,21 +54,21 @@ module _ (P : Program) where
     abbrev later : Said
     later = session P first.left es
 
-    pub stop-came : first.code ≡ 1 → session P rest (came p ∷ es) ≡ last first
+    pub stop_came : first.code ≡ 1 → session P rest (came p ∷ es) ≡ last first
     unfolding session
-    stop-came u = ap (λ (x : Next). says P x first.bytes later) (at_unknown (length p) first.code (length first.left) u)
+    stop_came u = ap (λ (x : Next). says P x first.bytes later) (at_unknown (length p) first.code (length first.left) u)
 
-    pub more-came : (first.code ≡ 1 → ⊥) → 0 < length p →
+    pub more_came : (first.code ≡ 1 → ⊥) → 0 < length p →
         session P rest (came p ∷ es) ≡ record { bytes = first.bytes ++ later.bytes; code = later.code }
     unfolding session
-    more-came u l = ap (λ (x : Next). says P x first.bytes later) (at_more (length p) first.code (length first.left) u l)
+    more_came u l = ap (λ (x : Next). says P x first.bytes later) (at_more (length p) first.code (length first.left) u l)
 
   -- Where no turn has code 255, the program says it only where something failed: as long as it was not told to stop it would go on.
   module _ (each : (rest : List ℕ) (h : Heard) → (P.turn rest h).code ≡ 255 → ⊥) where
-    by-failure : (rest : List ℕ) (es : List Event) → Stops P rest es → (session P rest es).code ≡ 255 → Failing es
+    by_failure : (rest : List ℕ) (es : List Event) → Stops P rest es → (session P rest es).code ≡ 255 → Failing es
     unfolding session Stops
-    by-failure rest [] s z = absurd s
-    by-failure rest (e ∷ es) s z = by-heard (λ rest s z. by-failure rest es s z) e.heard e.sent s z
+    by_failure rest [] s z = absurd s
+    by_failure rest (e ∷ es) s z = by-heard (λ rest s z. by_failure rest es s z) e.heard e.sent s z
       where
         by-heard : ((rest : List ℕ) → Stops P rest es → (session P rest es).code ≡ 255 → Failing es) → (h : Heard) (sent : Bool) →
             let x = next_of P rest (record { heard = h; sent = sent }) in
@@ -85,7 +85,7 @@ module _ (P : Program) where
             (not_broken (length p) t.code (length t.left))
 
     pub breaks_by_failure : (size : ℕ) (r : Ran P size 255) → Failing r.events ⊎ (length r.events ≡ 2 ^ 64 - 1)
-    breaks_by_failure size r = ⊎_elim (λ s. inl (by-failure [] r.events s (sym r.code))) (λ n. inr n) r.full
+    breaks_by_failure size r = ⊎_elim (λ s. inl (by_failure [] r.events s (sym r.code))) (λ n. inr n) r.full
 
   -- Where no turn has code 1, it says another code only where the input came in pieces and ended, and nothing failed before.
   pub ends_whole : ((rest : List ℕ) (h : Heard) → (P.turn rest h).code ≡ 1 → ⊥) → (rest : List ℕ) (es : List Event) → ((session P rest es).code ≡ 255 → ⊥) →
@@ -138,17 +138,17 @@ module _ (P : Program) where
   -- what holds of the code of every turn that fits, and of 255
   module _ (size : ℕ) (Q : ℕ → Type 0) (none : Q 255)
       (each : (rest : List ℕ) (e : Event) → length rest + length (piece e.heard) ≤ size → Q (turn_of P rest e).code) where
-    said-code : (x : Next) (b : List ℕ) (later : Said) → ((c : ℕ) → x ≡ Close c → Q c) → Q later.code → Q (says P x b later).code
-    said-code (Go k) b later h q = q
-    said-code (Close c) b later h q = h c refl
-    said-code Break b later h q = none
+    said_code : (x : Next) (b : List ℕ) (later : Said) → ((c : ℕ) → x ≡ Close c → Q c) → Q later.code → Q (says P x b later).code
+    said_code (Go k) b later h q = q
+    said_code (Close c) b later h q = h c refl
+    said_code Break b later h q = none
 
     pub coded : (rest : List ℕ) (es : List Event) → Fits P size rest es → Q (session P rest es).code
     unfolding session
     coded rest [] f = none
     coded rest (e ∷ es) f =
         let t = turn_of P rest e in
-        said-code (next_of P rest e) t.bytes (session P t.left es)
+        said_code (next_of P rest e) t.bytes (session P t.left es)
         (λ c q. subst Q (sym (close_code rest e c q)) (each rest e f.0))
         (coded t.left es f.1)
 

@@ -294,25 +294,25 @@ module _ (sine cosine : Float → Float) (f : Format) (t : Float) where
   at n c h q = sym (ap (λ (k : ℕ). case sine cosine k ((t ⊖ of_int binary64 (pos k) ⊗ half) ⊗ PI)) q ∙ ap (λ (d : Float). case sine cosine n ((t ⊖ d) ⊗ PI)) h)
 
   module _ (F : T (fits f t)) where
-    pub case-0 : NotBelow t → lt t (cut 1) ≡ true → sine ((t ⊖ bits 0) ⊗ PI) ≡ by_turn sine cosine f t
+    pub case_0 : NotBelow t → lt t (cut 1) ≡ true → sine ((t ⊖ bits 0) ⊗ PI) ≡ by_turn sine cosine f t
     unfolding of_int mul of_bits
-    case-0 n h = let q = first f t F 1 (lit≤ tt) n h in at 0 (bits 0) refl (q.1 ∙ omega arith)
+    case_0 n h = let q = first f t F 1 (lit≤ tt) n h in at 0 (bits 0) refl (q.1 ∙ omega arith)
 
-    pub case-1 : lt t (cut 1) ≡ false → lt t (cut 3) ≡ true → cosine ((t ⊖ bits 0x3FE0000000000000) ⊗ PI) ≡ by_turn sine cosine f t
+    pub case_1 : lt t (cut 1) ≡ false → lt t (cut 3) ≡ true → cosine ((t ⊖ bits 0x3FE0000000000000) ⊗ PI) ≡ by_turn sine cosine f t
     unfolding of_int mul of_bits
-    case-1 g h = let q = between f t F 1 3 (lit< tt) (lit≤ tt) g h in at 1 (bits 0x3FE0000000000000) refl (q.1 ∙ omega arith)
+    case_1 g h = let q = between f t F 1 3 (lit< tt) (lit≤ tt) g h in at 1 (bits 0x3FE0000000000000) refl (q.1 ∙ omega arith)
 
-    pub case-2 : lt t (cut 3) ≡ false → lt t (cut 5) ≡ true → sine (neg ((t ⊖ bits 0x3FF0000000000000) ⊗ PI)) ≡ by_turn sine cosine f t
+    pub case_2 : lt t (cut 3) ≡ false → lt t (cut 5) ≡ true → sine (neg ((t ⊖ bits 0x3FF0000000000000) ⊗ PI)) ≡ by_turn sine cosine f t
     unfolding of_int mul of_bits
-    case-2 g h = let q = between f t F 3 5 (lit< tt) (lit≤ tt) g h in at 2 (bits 0x3FF0000000000000) refl (q.1 ∙ omega arith)
+    case_2 g h = let q = between f t F 3 5 (lit< tt) (lit≤ tt) g h in at 2 (bits 0x3FF0000000000000) refl (q.1 ∙ omega arith)
 
-    pub case-3 : lt t (cut 5) ≡ false → lt t (cut 7) ≡ true → neg (cosine ((t ⊖ bits 0x3FF8000000000000) ⊗ PI)) ≡ by_turn sine cosine f t
+    pub case_3 : lt t (cut 5) ≡ false → lt t (cut 7) ≡ true → neg (cosine ((t ⊖ bits 0x3FF8000000000000) ⊗ PI)) ≡ by_turn sine cosine f t
     unfolding of_int mul of_bits
-    case-3 g h = let q = between f t F 5 7 (lit< tt) (lit≤ tt) g h in at 3 (bits 0x3FF8000000000000) refl (q.1 ∙ omega arith)
+    case_3 g h = let q = between f t F 5 7 (lit< tt) (lit≤ tt) g h in at 3 (bits 0x3FF8000000000000) refl (q.1 ∙ omega arith)
 
-    pub case-4 : lt t (cut 7) ≡ false → T (le t two+) → sine ((t ⊖ bits 0x4000000000000000) ⊗ PI) ≡ by_turn sine cosine f t
+    pub case_4 : lt t (cut 7) ≡ false → T (le t two+) → sine ((t ⊖ bits 0x4000000000000000) ⊗ PI) ≡ by_turn sine cosine f t
     unfolding of_int mul of_bits
-    case-4 g h = let q = last f t F 7 (lit< tt) g h in at 4 (bits 0x4000000000000000) refl (q.1 ∙ omega arith)
+    case_4 g h = let q = last f t F 7 (lit< tt) g h in at 4 (bits 0x4000000000000000) refl (q.1 ∙ omega arith)
 
   -- of a NaN both ways
   pub case_nan : t ≡ nan → sine ((t ⊖ bits 0x4000000000000000) ⊗ PI) ≡ by_turn sine cosine f t

@@ -14,7 +14,7 @@ use Rattle.rounding.proofs.Fraction.{add_fraction}
 use Rattle.rounding.proofs.Relative.{zero+}
 use Rattle.rounding.proofs.Exact.{round_at_least}
 use Rattle.floor.specs.Floor.{floor_s}
-use Rattle.floor.proofs.FloorValues.{floor-at-most, floor_inf}
+use Rattle.floor.proofs.FloorValues.{floor_at_most, floor_inf}
 use Rattle.sinpi.specs.Sinpi.{turn_s}
 use Rattle.sinpi.specs.Sinpif as Sinpif
 use Rattle.sinpi.proofs.Exactness.{half+, turn_of}
@@ -73,7 +73,7 @@ pub part_not_below : (f : Format) (h : Float) → T (fits f h) → NotBelow (sub
 part_not_below f nan F = unfold sub add lt in refl
 part_not_below f (inf true) F = rw (floor_inf f true) (unfold sub add neg lt in refl)
 part_not_below f (inf false) F = rw (floor_inf f false) (unfold sub add neg lt in refl)
-part_not_below f (fin s m e) F = sub_not_below f s m e (floor_s f (fin s m e)) (floor-at-most f s m e F)
+part_not_below f (fin s m e) F = sub_not_below f s m e (floor_s f (fin s m e)) (floor_at_most f s m e F)
 
 pub turn_of_not_below : (f : Format) (x : Float) → NotBelow (turn_of f x)
 turn_of_not_below f x =

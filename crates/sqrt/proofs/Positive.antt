@@ -95,9 +95,9 @@ module _ (A h q : ℕ) (lo : 2 ^ 52 ≤ A) (hi : A < 2 ^ 54) (small : h < 1100) 
         back : (g z : ℕ) → g * (4 * z) ≡ 4 * g * z
         back g z = omega arith
 
-    rounded-value : HasValue (rounded n) false (q * 2 ^ (h + 474)) (2 ^ 1074)
+    rounded_value : HasValue (rounded n) false (q * 2 ^ (h + 474)) (2 ^ 1074)
     unfolding rounded
-    rounded-value =
+    rounded_value =
         let r = root_is n in
         round_near binary64 false (halves n (root n)) (2 * 2 ^ 601) q (h + 474) (4 * 2 ^ h) (mul-pos (zero-lt-suc 1) (pow_pos 601)) unit
         (digits_from n (A * 2 ^ 52) (2 ^ h) (2 ^ 52) (root n) (pow_pos h) e r long)
@@ -140,7 +140,7 @@ module _ (A h q : ℕ) (lo : 2 ^ 52 ≤ A) (hi : A < 2 ^ 54) (small : h < 1100) 
       let n_is : n ≡ A * 2 ^ 52 * (2 * 2 ^ h * (2 * 2 ^ h)) =
       scaled_n (suc m * up e) (down e) A (2 ^ h) (4 ^ 601) (2 ^ 896) (2 ^ 475) (2 ^ 52) (pow_pos 896) (down_pos e) refl
       (subst (λ (z : ℕ). suc m * up e * 2 ^ 2098 ≡ A * (z * z) * down e) (pow-add 2 h 475) v.1) in (
-        subst (λ (z : Float). HasValue z false (q * 2 ^ (h + 474)) (2 ^ 1074)) (sym (at_positive m e)) (rounded-value n n_is),
+        subst (λ (z : Float). HasValue z false (q * 2 ^ (h + 474)) (2 ^ 1074)) (sym (at_positive m e)) (rounded_value n n_is),
         positive_fits m e,
       )
 

@@ -83,6 +83,6 @@ module _ (i : ℕ) where
 
   -- where a row says nothing, those behind it tell, and else it tells
   module _ (s : List ℕ) (a : Asked) (h : i < 7) (e : asked_as (take (row_at names i).length (row_at names i).head) (row_at names i).kind s ≡ a) where
-    pub ask-next : asked (drop i names) s ≡ or_else a (asked (drop (i + 1) names) s)
+    pub ask_next : asked (drop i names) s ≡ or_else a (asked (drop (i + 1) names) s)
     unfolding names
-    ask-next = next names i s tt h ∙ rw (e, add-one)
+    ask_next = next names i s tt h ∙ rw (e, add-one)

@@ -29,9 +29,9 @@ module _ (s : List ℕ) (at : ℕ) where
   first_end h = let e : drop at s ≡ [] = drop_of_length-le s h in rw e
 
   module _ (h : at < length s) where
-    pub first-here : get_or s at 0 ≡ NEWLINE → first_line (drop at s) ≡ []
+    pub first_here : get_or s at 0 ≡ NEWLINE → first_line (drop at s) ≡ []
     unfolding first_line
-    first-here e = rw (drop-cons s at 0 h, eq-eqb (get_or s at 0) NEWLINE e)
+    first_here e = rw (drop-cons s at 0 h, eq-eqb (get_or s at 0) NEWLINE e)
 
     pub first_more : (get_or s at 0 ≡ NEWLINE → ⊥) → first_line (drop at s) ≡ get_or s at 0 ∷ first_line (drop (at + 1) s)
     unfolding first_line

@@ -22,7 +22,7 @@ use Rattle.records.specs.Row.{Row}
 use Rattle.records.specs.Pieces.{whole}
 use Rattle.decide.specs.Decide.{at_end_s}
 use Rattle.session.specs.Session.{Heard, brought, failed, returned, piece, Event, Turn, turn_of, Said, session, came, delivered, arriving, Some}
-use Rattle.session.proofs.SayLaws.{Front, end_came, more-came, ends_whole, front_end, front_of, coded}
+use Rattle.session.proofs.SayLaws.{Front, end_came, more_came, ends_whole, front_end, front_of, coded}
 use Rattle.session.proofs.SayLaws as say
 use Rattle.text.specs.Text.{lines, text_of, Cut, cut}
 use Rattle.text.specs.Reply.{reply_to, replies_to}
@@ -83,14 +83,14 @@ module _ (T : List Row) where
     kept_free : Free (take KEPT u)
     kept_free = free_take KEPT u f
 
-    pub same-said : said (cut (take KEPT u ++ t)) ≡ said (cut (u ++ t))
-    same-said = ap said (cut_front (take KEPT u) t kept_free) ∙ (graft_said u (cut t)).0 ∙ sym (ap said (cut_front u t f))
+    pub same_said : said (cut (take KEPT u ++ t)) ≡ said (cut (u ++ t))
+    same_said = ap said (cut_front (take KEPT u) t kept_free) ∙ (graft_said u (cut t)).0 ∙ sym (ap said (cut_front u t f))
 
     pub same_left : take KEPT (cut (take KEPT u ++ t)).rest ≡ take KEPT (cut (u ++ t)).rest
     same_left = ap (λ (k : Cut). take KEPT k.rest) (cut_front (take KEPT u) t kept_free) ∙ (graft_said u (cut t)).1.1 ∙ sym (ap (λ (k : Cut). take KEPT k.rest) (cut_front u t f))
 
-    pub same-all : replies_to T (take KEPT u ++ t) ≡ replies_to T (u ++ t)
-    same-all =
+    pub same_all : replies_to T (take KEPT u ++ t) ≡ replies_to T (u ++ t)
+    same_all =
         ap (λ (x : List (List ℕ)). text_of (map (reply_to T) x)) (lines_cut (take KEPT u ++ t)) ∙ ap said_all (cut_front (take KEPT u) t kept_free)
         ∙ (graft_said u (cut t)).1.0 ∙ sym (ap said_all (cut_front u t f)) ∙ sym (ap (λ (x : List (List ℕ)). text_of (map (reply_to T) x)) (lines_cut (u ++ t)))
 
@@ -107,7 +107,7 @@ module _ (T : List Row) where
 
   turn_over : (u p : List ℕ) → Free u → turn_on T false (take KEPT u ++ p) ≡ turn_on T false (u ++ p)
   turn_over u p f =
-      ap (λ (x : List ℕ). record { bytes = x; code = 0; left = take KEPT (cut (take KEPT u ++ p)).rest }) (same-said u p f)
+      ap (λ (x : List ℕ). record { bytes = x; code = 0; left = take KEPT (cut (take KEPT u ++ p)).rest }) (same_said u p f)
       ∙ ap (λ (x : List ℕ). record { bytes = said (cut (u ++ p)); code = 0; left = x }) (same_left u p f)
 
   -- a read that brings bytes is not the end
@@ -127,7 +127,7 @@ module _ (T : List Row) where
       ≡ ahead (λ x. session (typing T) x es) (turn_on T false (u ++ p))
   goes_on u p es f h =
       let e = turn_more u p f h in
-      more-came (typing T) (take KEPT u) p es (λ z. let y : 0 ≡ 1 = sym (ap (λ (t : Turn). t.code) e) ∙ z in omega arith) h
+      more_came (typing T) (take KEPT u) p es (λ z. let y : 0 ≡ 1 = sym (ap (λ (t : Turn). t.code) e) ∙ z in omega arith) h
       ∙ ap (ahead (λ x. session (typing T) x es)) e
 
   -- all pieces to the end, whatever events are behind it
@@ -135,7 +135,7 @@ module _ (T : List Row) where
       session (typing T) (take KEPT u) (delivered ps ++ more) ≡ record { bytes = replies_to T (u ++ whole ps); code = 0 }
   by_pieces u [] more f s =
       end_came (typing T) (take KEPT u) more
-      ∙ ap (λ (x : List ℕ). record { bytes = x; code = 0 }) (append-nil (replies_to T (take KEPT u ++ [])) ∙ same-all u [] f)
+      ∙ ap (λ (x : List ℕ). record { bytes = x; code = 0 }) (append-nil (replies_to T (take KEPT u ++ [])) ∙ same_all u [] f)
   by_pieces u (p ∷ ps) more f s =
       let v = (cut (u ++ p)).rest in
       goes_on u p (delivered ps ++ more) f s.0
@@ -185,7 +185,7 @@ module _ (T : List Row) where
       by-heard : ((v : List ℕ) → Free v → Front (replies_to T (v ++ typed es)) (session (typing T) (take KEPT v) es)) → (h : Heard) →
           Front (replies_to T (u ++ typed_of h (typed es))) (session (typing T) (take KEPT u) (record { heard = h; sent = e.sent } ∷ es))
       by-heard later failed = front_more u [] failed e.sent es f refl refl later
-      by-heard later (brought []) = front_end (typing T) (take KEPT u) e.sent es _ (λ z. omega arith) (sym (same-all u [] f))
+      by-heard later (brought []) = front_end (typing T) (take KEPT u) e.sent es _ (λ z. omega arith) (sym (same_all u [] f))
       by-heard later (brought (c ∷ p)) = front_more u (c ∷ p) (brought (c ∷ p)) e.sent es f refl (more_comes (c ∷ p) (omega arith)) later
 
   pub broken_is_front : BrokenIsFront T

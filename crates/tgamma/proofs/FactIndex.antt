@@ -11,7 +11,7 @@ use Rattle.rounding.proofs.Signed.{le→Le, Le→le}
 use Rattle.words.specs.Bits.{size_word_s, sign_s}
 use Rattle.floor.specs.Floor.{floor_s}
 use Rattle.words.proofs.CutLaws.{from_word, sign_of_is}
-use Rattle.floor.proofs.FloorValues.{floor-whole}
+use Rattle.floor.proofs.FloorValues.{floor_whole}
 use Rattle.whole.proofs.WholeBounds.{Plus, whole_plus}
 use Rattle.tgamma.specs.Tgamma.{23·0}
 
@@ -33,7 +33,7 @@ fact_index (inf true) F h = absurd (unfold to_bits in h.2 refl)
 fact_index (fin true m e) F h = absurd (h.2 (sign_of_is binary64 true m e (rw F tt)))
 fact_index (fin false m e) F h =
     whole_plus 1 23 (fin false m e) (omega arith)
-    (Le→le false 1 (pos 0) false m e (omega (arith, one_le (m * up e) (down e) above (floor-whole binary64 false m e (rw F tt) h.0))), rw h.3 tt)
+    (Le→le false 1 (pos 0) false m e (omega (arith, one_le (m * up e) (down e) above (floor_whole binary64 false m e (rw F tt) h.0))), rw h.3 tt)
   where
     above : 0 < m * up e
     above =

@@ -16,7 +16,7 @@ use Rattle.words.specs.F64.{◌⊗◌, ◌⊘◌, 1·0}
 use Rattle.words.specs.Bits.{size_word_s}
 use Rattle.floor.specs.Floor.{floor_s}
 use Rattle.words.proofs.CutLaws.{word_under, from_word, upto_word, sign_of_is}
-use Rattle.floor.proofs.FloorValues.{floor-differs}
+use Rattle.floor.proofs.FloorValues.{floor_differs}
 use Rattle.whole.proofs.WholeBounds.{Plus}
 use Rattle.tgamma.specs.Tgamma.{FACT, tgamma_s, integer_s, general_s, vanished_s, lanczos_s, x1p1023, 23·0}
 use Rattle.tgamma.proofs.FactIndex.{fact_index}
@@ -85,7 +85,7 @@ unfolding tgamma_s
 reached false m e F n t true h =
     rw (lt-leb 0x7FF00000 _ (word_under false m e F), t, h, sign_of_is binary64 false m e F) (integer m e F t h _ refl)
 reached true m e F n t true h =
-    absurd (true≢false (sym h ∙ floor-differs binary64 true m e F (n refl (ltb→lt 0 m (above_of_le from_54 (fin false m e) tt (from_tiny true m e F t))))))
+    absurd (true≢false (sym h ∙ floor_differs binary64 true m e F (n refl (ltb→lt 0 m (above_of_le from_54 (fin false m e) tt (from_tiny true m e F t))))))
 reached false m e F n t false h =
     rw (lt-leb 0x7FF00000 _ (word_under false m e F), t, h, sign_of_is binary64 false m e F) (general false m e F t _ refl)
 reached true m e F n t false h =

@@ -16,7 +16,7 @@ use lib.Ieee.Exact.{HasValue}
 use lib.Ieee.Fits.{down_pos}
 use borrow.Author.Tests.{eq-eqb, ne_eqb}
 use Rattle.floor.specs.Floor.{floor_s}
-use Rattle.floor.proofs.FloorValues.{rest_same, floor_inf, floor_own, floor_same, floor-differs, floor-whole}
+use Rattle.floor.proofs.FloorValues.{rest_same, floor_inf, floor_own, floor_same, floor_differs, floor_whole}
 use Rattle.whole.specs.Whole.{has_fraction_s}
 
 pub fraction_at : (x : Float) (s : Bool) (d w : ℕ) → 0 < w → HasValue x s d w → has_fraction_s x ≡ not (eqb (d % w) 0)
@@ -37,7 +37,7 @@ whole_test f (fin s m e) F n =
       | inl z ↦ floor_same f s m e z ∙ sym (ap (λ (b : Bool). not (not b)) (eq-eqb (m * up e % down e) 0 z))
       | inr p ↦
           let some : m * up e % down e ≡ 0 → ⊥ = λ z. omega arith in
-          floor-differs f s m e F some ∙ sym (ap (λ (b : Bool). not (not b)) (ne_eqb (m * up e % down e) 0 some))
+          floor_differs f s m e F some ∙ sym (ap (λ (b : Bool). not (not b)) (ne_eqb (m * up e % down e) 0 some))
     ]
 
 pub fraction_nan : has_fraction_s nan ≡ false
@@ -48,4 +48,4 @@ pub own_floor : (f : Format) (x : Float) → T (fits f x) → x ≡ floor_s f x 
 unfolding has_fraction_s
 own_floor f nan F h = refl
 own_floor f (inf s) F h = refl
-own_floor f (fin s m e) F h = ap not (eq-eqb (m * up e % down e) 0 (floor-whole f s m e F (floor_own f s m e h)))
+own_floor f (fin s m e) F h = ap not (eq-eqb (m * up e % down e) 0 (floor_whole f s m e F (floor_own f s m e h)))

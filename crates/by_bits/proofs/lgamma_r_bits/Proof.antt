@@ -6,7 +6,7 @@ use mir.ValLaws.{to_z-of_z}
 use borrow.Author.Rules.{rules}
 use Rattle.lgamma.proofs.SpecialValues.{lgamma_special}
 use Rattle.lgamma.specs.Lgamma64.{lgamma_s}
-use Rattle.by_bits.proofs.NanLaws.{value-on-nan, sign-on-nan}
+use Rattle.by_bits.proofs.NanLaws.{value_on_nan, sign_on_nan}
 use Rattle.by_bits.proofs.lgamma_r_bits.Statement.{statement}
 use Rattle.by_bits.proofs.lgamma_r_bits.Tie as tie
 
@@ -18,7 +18,7 @@ unfolding to_bits
 returns c =
     let x = c.before.before.args.x in
     let h = sym c.before.nan_is.ensures ∙ c.if1.true in
-    (value-on-nan binary64 x h lgamma_s lgamma_special.at_nan, sign-on-nan binary64 x h lgamma_s lgamma_special.at_nan)
+    (value_on_nan binary64 x h lgamma_s lgamma_special.at_nan, sign_on_nan binary64 x h lgamma_s lgamma_special.at_nan)
 
 of-bits-requires : tie.Need-of-bits-requires
 of-bits-requires c κs = search rules

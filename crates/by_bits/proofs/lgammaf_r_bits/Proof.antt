@@ -6,7 +6,7 @@ use mir.ValLaws.{to_z-of_z}
 use borrow.Author.Rules.{rules}
 use Rattle.lgammaf.proofs.SpecialValues.{lgammaf_special}
 use Rattle.lgammaf.specs.Lgammaf.{lgammaf_s}
-use Rattle.by_bits.proofs.NanLaws.{value-on-nan, sign-on-nan}
+use Rattle.by_bits.proofs.NanLaws.{value_on_nan, sign_on_nan}
 use Rattle.by_bits.proofs.lgammaf_r_bits.Statement.{statement}
 use Rattle.by_bits.proofs.lgammaf_r_bits.Tie as tie
 
@@ -18,7 +18,7 @@ unfolding to_bits
 returns c =
     let x = c.before.before.args.x in
     let h = sym c.before.is-nan-f32.ensures ∙ c.if1.true in
-    (value-on-nan binary32 x h lgammaf_s lgammaf_special.at_nan, sign-on-nan binary32 x h lgammaf_s lgammaf_special.at_nan)
+    (value_on_nan binary32 x h lgammaf_s lgammaf_special.at_nan, sign_on_nan binary32 x h lgammaf_s lgammaf_special.at_nan)
 
 of-bits-f32-requires : tie.Need-of-bits-f32-requires
 of-bits-f32-requires c κs = search rules

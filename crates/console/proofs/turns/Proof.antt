@@ -7,7 +7,7 @@ use borrow.Author.Rules.{rules}
 use lib.ListN.{length, take}
 use Rattle.replies.specs.Table.{table}
 use Rattle.session.specs.Post.{Passed}
-use Rattle.session.proofs.LoopLaws.{Going, going_none, going_out, going-close, going-break, going_on}
+use Rattle.session.proofs.LoopLaws.{Going, going_none, going_out, going_close, going_break, going_on}
 use Rattle.text.specs.Typing.{typing}
 use Rattle.console.proofs.PassLaws.{kept_small}
 use Rattle.console.proofs.turns.Statement.{statement}
@@ -78,7 +78,7 @@ returns c =
     let k = c.before.code in
     let p = c.before.before.before.before.before.before.before in
     let l = (at p).loop in
-    going-close (typing table) (size p) l.turns (take l.have l.buf) l.inv.1 p.pass.result p.pass.new.0
+    going_close (typing table) (size p) l.turns (take l.have l.buf) l.inv.1 p.pass.result p.pass.new.0
     (passed p) k.given.0.0 k.given.1
 
 enum_told : tie.Need-enum-told invariant-loop decreases-loop
@@ -94,7 +94,7 @@ returns-2 : tie.Need-returns-2 invariant-loop decreases-loop
 returns-2 c =
     let p = c.before.before.before.before.before.before in
     let l = (at p).loop in
-    going-break (typing table) (size p) l.turns (take l.have l.buf) l.inv.1 p.pass.result p.pass.new.0
+    going_break (typing table) (size p) l.turns (take l.have l.buf) l.inv.1 p.pass.result p.pass.new.0
     (passed p) c.enum_told.given.1
 
 same-length-5 : tie.Need-same-length-5 invariant-loop decreases-loop

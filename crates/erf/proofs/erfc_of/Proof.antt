@@ -13,17 +13,17 @@ int-to-float-result : tie.Need-int-to-float-result
 int-to-float-result c = search rules
 
 returns : tie.Need-returns
-returns c = let h = c.before.before.requires in code.erfc-not-finite erf64 h.0 h.1 c.before.if1.true
+returns c = let h = c.before.before.requires in code.erfc_not_finite erf64 h.0 h.1 c.before.if1.true
 
 returns-2 : tie.Need-returns-2
-returns-2 c = let i = c.before.before in let h = i.before.requires in code.erfc-tiny erf64 h.0 h.1 i.if1.false c.before.if2.true c.if3.true
+returns-2 c = let i = c.before.before in let h = i.before.requires in code.erfc_tiny erf64 h.0 h.1 i.if1.false c.before.if2.true c.if3.true
 
 returns-3 : tie.Need-returns-3
 returns-3 c =
     let a = c.before in
     let i = a.before.before in
     let h = i.before.requires in
-    code.erfc-below-quarter erf64 h.0 h.1 i.if1.false a.before.if2.true a.if3.false (h.2.small a.if3.false a.before.if2.true)
+    code.erfc_below_quarter erf64 h.0 h.1 i.if1.false a.before.if2.true a.if3.false (h.2.small a.if3.false a.before.if2.true)
     (elim c.if4.branch [ inl h ↦ inl (omega (arith, h.taken)) | inr h ↦ inr (omega (arith, h.0.left), h.1.taken) ])
 
 returns-4 : tie.Need-returns-4
@@ -31,7 +31,7 @@ returns-4 c =
     let a = c.before.before in
     let i = a.before.before in
     let h = i.before.requires in
-    code.erfc-from-quarter erf64 h.0 h.1 i.if1.false a.before.if2.true a.if3.false (h.2.small a.if3.false a.before.if2.true)
+    code.erfc_from_quarter erf64 h.0 h.1 i.if1.false a.before.if2.true a.if3.false (h.2.small a.if3.false a.before.if2.true)
     (omega (arith, c.before.if4.false)) c.if5.false
 
 returns-5 : tie.Need-returns-5
@@ -39,14 +39,14 @@ returns-5 c =
     let a = c.before in
     let i = a.before.before in
     let h = i.before.requires in
-    code.erfc-minus erf64 h.0 h.1 i.if1.false a.before.if2.false a.if6.true c.if7.true (h.2.tail a.before.if2.false a.if6.true)
+    code.erfc_minus erf64 h.0 h.1 i.if1.false a.before.if2.false a.if6.true c.if7.true (h.2.tail a.before.if2.false a.if6.true)
 
 returns-6 : tie.Need-returns-6
 returns-6 c =
     let a = c.before in
     let i = a.before.before in
     let h = i.before.requires in
-    h.2.tail a.before.if2.false a.if6.true ∙ code.erfc-plus erf64 h.0 h.1 i.if1.false a.before.if2.false a.if6.true c.if7.false
+    h.2.tail a.before.if2.false a.if6.true ∙ code.erfc_plus erf64 h.0 h.1 i.if1.false a.before.if2.false a.if6.true c.if7.false
 
 float-from-bits-x1p-1022 : tie.Need-float-from-bits-x1p-1022
 unfolding nan_bits
@@ -57,14 +57,14 @@ returns-7 c =
     let a = c.before in
     let i = a.before.before in
     let h = i.before.requires in
-    code.erfc-far-minus erf64 h.0 h.1 i.if1.false a.before.if2.false a.if6.false c.if8.true
+    code.erfc_far_minus erf64 h.0 h.1 i.if1.false a.before.if2.false a.if6.false c.if8.true
 
 returns-8 : tie.Need-returns-8
 returns-8 c =
     let a = c.before in
     let i = a.before.before in
     let h = i.before.requires in
-    code.erfc-far-plus erf64 h.0 h.1 i.if1.false a.before.if2.false a.if6.false c.if8.false
+    code.erfc_far_plus erf64 h.0 h.1 i.if1.false a.before.if2.false a.if6.false c.if8.false
 
 pub erfc-of-spec : {M : Type 1} → statement M
 erfc-of-spec =

@@ -18,7 +18,7 @@ horner-requires-2 : tie.Need-horner-requires-2
 horner-requires-2 c κs = search rules
 
 returns : tie.Need-returns
-returns c = code.ratio-near erf64 _ c.before.before.before.before.if1.true c.before.before.horner.ensures c.horner2.ensures
+returns c = code.ratio_near erf64 _ c.before.before.before.before.if1.true c.before.before.horner.ensures c.horner2.ensures
 
 slice-aggregate-horner-3 : tie.Need-slice-aggregate-horner-3
 slice-aggregate-horner-3 c = search rules
@@ -33,7 +33,7 @@ horner-requires-4 : tie.Need-horner-requires-4
 horner-requires-4 c κs = search rules
 
 returns-2 : tie.Need-returns-2
-returns-2 c = code.ratio-far erf64 _ c.before.before.before.before.if1.false c.before.before.horner3.ensures c.horner4.ensures
+returns-2 c = code.ratio_far erf64 _ c.before.before.before.before.if1.false c.before.before.horner3.ensures c.horner4.ensures
 
 pub ratio-spec : {M : Type 1} → statement M
 ratio-spec =

@@ -12,13 +12,13 @@ small-requires : tie.Need-small-requires
 small-requires c κs = search rules
 
 returns-2 : tie.Need-returns-2
-returns-2 c = shared.by-small erf64 c.before.before.if1.true c.small.ensures
+returns-2 c = shared.by_small erf64 c.before.before.if1.true c.small.ensures
 
 erfc2-requires : tie.Need-erfc2-requires
 erfc2-requires c κs = search rules
 
 returns-3 : tie.Need-returns-3
-returns-3 c = shared.by-tail erf64 c.before.before.if1.false c.erfc2.ensures
+returns-3 c = shared.by_tail erf64 c.before.before.if1.false c.erfc2.ensures
 
 returns-4 : tie.Need-returns-4
 returns-4 c = shared.none_above erf64 c.before.if1.false c.if3.false

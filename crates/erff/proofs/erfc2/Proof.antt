@@ -22,13 +22,13 @@ unfolding short_s to_bits of_bits
 short_nan = refl
 
 returns : tie.Need-returns
-returns c = nan_kept (erfc2_s erf32 c.before.args.ix) (code.erfc2-nan erf32 expf_nan near_nan short_nan c.before.args.ix) _ c.if1.true
+returns c = nan_kept (erfc2_s erf32 c.before.args.ix) (code.erfc2_nan erf32 expf_nan near_nan short_nan c.before.args.ix) _ c.if1.true
 
 erfc1-requires : tie.Need-erfc1-requires
 erfc1-requires c κs = search rules
 
 returns-2 : tie.Need-returns-2
-returns-2 c = c.erfc1.ensures ∙ code.erfc2-near erf32 _ c.before.if2.true
+returns-2 c = c.erfc1.ensures ∙ code.erfc2_near erf32 _ c.before.if2.true
 
 fabsf-requires : tie.Need-fabsf-requires
 fabsf-requires c κs = search rules
@@ -49,7 +49,7 @@ returns-3 : tie.Need-returns-3
 returns-3 c =
     let short = c.before.before.before in
     let fabs = short.before in
-    code.erfc2-far erf32 _ fabs.before.if2.false fabs.fabsf.ensures short.short.ensures
+    code.erfc2_far erf32 _ fabs.before.if2.false fabs.fabsf.ensures short.short.ensures
     c.before.expf.ensures c.before.before.ratio.ensures c.expf2.ensures
 
 pub erfc2-spec : {M : Type 1} → statement M

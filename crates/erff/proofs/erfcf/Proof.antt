@@ -31,12 +31,12 @@ int-to-float-result c =
 returns-2 : tie.Need-returns-2
 returns-2 c =
     let i = c.before in
-    code.erfc-not-finite erf32 i.before.before.size_bits.ensures i.before.sign-f32.ensures i.if2.true
+    code.erfc_not_finite erf32 i.before.before.size_bits.ensures i.before.sign-f32.ensures i.if2.true
 
 returns-3 : tie.Need-returns-3
 returns-3 c =
     let i = c.before.before in
-    code.erfc-tiny erf32 i.before.before.size_bits.ensures i.before.sign-f32.ensures i.if2.false c.before.if3.true c.if4.true
+    code.erfc_tiny erf32 i.before.before.size_bits.ensures i.before.sign-f32.ensures i.if2.false c.before.if3.true c.if4.true
 
 small-requires : tie.Need-small-requires
 small-requires c κs = search rules
@@ -44,14 +44,14 @@ small-requires c κs = search rules
 returns-4 : tie.Need-returns-4
 returns-4 c =
     let i = c.before.before.before.before in
-    code.erfc-below-quarter erf32 i.before.before.size_bits.ensures i.before.sign-f32.ensures i.if2.false
+    code.erfc_below_quarter erf32 i.before.before.size_bits.ensures i.before.sign-f32.ensures i.if2.false
     c.before.before.before.if3.true c.before.before.if4.false c.before.small.ensures
     (elim c.if5.branch [ inl h ↦ inl (omega (arith, h.taken)) | inr h ↦ inr (omega (arith, h.0.left), h.1.taken) ])
 
 returns-5 : tie.Need-returns-5
 returns-5 c =
     let i = c.before.before.before.before.before in
-    code.erfc-from-quarter erf32 i.before.before.size_bits.ensures i.before.sign-f32.ensures i.if2.false
+    code.erfc_from_quarter erf32 i.before.before.size_bits.ensures i.before.sign-f32.ensures i.if2.false
     c.before.before.before.before.if3.true c.before.before.before.if4.false c.before.before.small.ensures
     (omega (arith, c.before.if5.false)) c.if6.false
 
@@ -61,7 +61,7 @@ erfc2-requires c κs = search rules
 returns-6 : tie.Need-returns-6
 returns-6 c =
     let i = c.before.before.before.before in
-    code.erfc-minus erf32 i.before.before.size_bits.ensures i.before.sign-f32.ensures i.if2.false
+    code.erfc_minus erf32 i.before.before.size_bits.ensures i.before.sign-f32.ensures i.if2.false
     c.before.before.before.if3.false c.before.before.if7.true c.before.if8.true c.erfc2.ensures
 
 erfc2-requires-2 : tie.Need-erfc2-requires-2
@@ -70,7 +70,7 @@ erfc2-requires-2 c κs = search rules
 returns-7 : tie.Need-returns-7
 returns-7 c =
     let i = c.before.before.before.before in
-    c.erfc22.ensures ∙ code.erfc-plus erf32 i.before.before.size_bits.ensures i.before.sign-f32.ensures i.if2.false
+    c.erfc22.ensures ∙ code.erfc_plus erf32 i.before.before.size_bits.ensures i.before.sign-f32.ensures i.if2.false
     c.before.before.before.if3.false c.before.before.if7.true c.before.if8.false
 
 float-from-bits-x1p-120 : tie.Need-float-from-bits-x1p-120
@@ -80,13 +80,13 @@ float-from-bits-x1p-120 c = tt
 returns-8 : tie.Need-returns-8
 returns-8 c =
     let i = c.before.before.before in
-    code.erfc-far-minus erf32 i.before.before.size_bits.ensures i.before.sign-f32.ensures i.if2.false
+    code.erfc_far_minus erf32 i.before.before.size_bits.ensures i.before.sign-f32.ensures i.if2.false
     c.before.before.if3.false c.before.if7.false c.if9.true
 
 returns-9 : tie.Need-returns-9
 returns-9 c =
     let i = c.before.before.before in
-    code.erfc-far-plus erf32 i.before.before.size_bits.ensures i.before.sign-f32.ensures i.if2.false
+    code.erfc_far_plus erf32 i.before.before.size_bits.ensures i.before.sign-f32.ensures i.if2.false
     c.before.before.if3.false c.before.if7.false c.if9.false
 
 pub erfcf-spec : {M : Type 1} → statement M

@@ -29,12 +29,12 @@ int-to-float-result c =
 returns-2 : tie.Need-returns-2
 returns-2 c =
     let i = c.before in
-    code.erf-not-finite erf32 i.before.before.size_bits.ensures i.before.sign-f32.ensures i.if2.true
+    code.erf_not_finite erf32 i.before.before.size_bits.ensures i.before.sign-f32.ensures i.if2.true
 
 returns-3 : tie.Need-returns-3
 returns-3 c =
     let i = c.before.before in
-    code.erf-tiny erf32 i.before.before.size_bits.ensures i.before.sign-f32.ensures i.if2.false c.before.if3.true c.if4.true
+    code.erf_tiny erf32 i.before.before.size_bits.ensures i.before.sign-f32.ensures i.if2.false c.before.if3.true c.if4.true
 
 small-requires : tie.Need-small-requires
 small-requires c κs = search rules
@@ -42,7 +42,7 @@ small-requires c κs = search rules
 returns-4 : tie.Need-returns-4
 returns-4 c =
     let i = c.before.before.before in
-    code.erf-small erf32 i.before.before.size_bits.ensures i.before.sign-f32.ensures i.if2.false
+    code.erf_small erf32 i.before.before.size_bits.ensures i.before.sign-f32.ensures i.if2.false
     c.before.before.if3.true c.before.if4.false c.small.ensures
 
 erfc2-requires : tie.Need-erfc2-requires
@@ -54,7 +54,7 @@ signed-requires c κs = search rules
 returns-5 : tie.Need-returns-5
 returns-5 c =
     let i = c.before.before.before.before in
-    c.signed.ensures ∙ code.erf-below-6 erf32 i.before.before.size_bits.ensures i.before.sign-f32.ensures i.if2.false
+    c.signed.ensures ∙ code.erf_below_6 erf32 i.before.before.size_bits.ensures i.before.sign-f32.ensures i.if2.false
     c.before.before.before.if3.false c.before.before.if5.true c.before.erfc2.ensures
 
 float-from-bits-x1p-120 : tie.Need-float-from-bits-x1p-120
@@ -67,7 +67,7 @@ signed-requires-2 c κs = search rules
 returns-6 : tie.Need-returns-6
 returns-6 c =
     let i = c.before.before.before in
-    c.signed2.ensures ∙ code.erf-from-6 erf32 i.before.before.size_bits.ensures i.before.sign-f32.ensures i.if2.false
+    c.signed2.ensures ∙ code.erf_from_6 erf32 i.before.before.size_bits.ensures i.before.sign-f32.ensures i.if2.false
     c.before.before.if3.false c.before.if5.false
 
 pub erff-spec : {M : Type 1} → statement M

@@ -18,7 +18,7 @@ hornerf-requires-2 : tie.Need-hornerf-requires-2
 hornerf-requires-2 c κs = search rules
 
 returns : tie.Need-returns
-returns c = code.ratio-near erf32 _ c.before.before.before.before.if1.true c.before.before.hornerf.ensures c.hornerf2.ensures
+returns c = code.ratio_near erf32 _ c.before.before.before.before.if1.true c.before.before.hornerf.ensures c.hornerf2.ensures
 
 slice-aggregate-hornerf-3 : tie.Need-slice-aggregate-hornerf-3
 slice-aggregate-hornerf-3 c = search rules
@@ -33,7 +33,7 @@ hornerf-requires-4 : tie.Need-hornerf-requires-4
 hornerf-requires-4 c κs = search rules
 
 returns-2 : tie.Need-returns-2
-returns-2 c = code.ratio-far erf32 _ c.before.before.before.before.if1.false c.before.before.hornerf3.ensures c.hornerf4.ensures
+returns-2 c = code.ratio_far erf32 _ c.before.before.before.before.if1.false c.before.before.hornerf3.ensures c.hornerf4.ensures
 
 pub ratio-spec : {M : Type 1} → statement M
 ratio-spec =

@@ -17,7 +17,7 @@ scalbn-requires c κs = search rules
 returns : tie.Need-returns
 returns c =
     let s = c.before.before.before in
-    code.not-scaled exp64 _ s.args.x s.args.hi s.args.lo s.args.k s.ranges.k c.before.horner.ensures c.if1.true
+    code.not_scaled exp64 _ s.args.x s.args.hi s.args.lo s.args.k s.ranges.k c.before.horner.ensures c.if1.true
 
 returns-2 : tie.Need-returns-2
 returns-2 c =

@@ -49,7 +49,7 @@ returns-4 : tie.Need-returns-4
 returns-4 c =
     let t = c.before.before in
     let e = t.before.before in
-    code.tiny-minus lgamma64 _ e.before.size_word.ensures e.before.before.sign.ensures e.if2.false t.before.if3.true t.if4.false
+    code.tiny_minus lgamma64 _ e.before.size_word.ensures e.before.before.sign.ensures e.if2.false t.before.if3.true t.if4.false
     c.before.log2.ensures c.answer4.ensures
 
 size-requires : tie.Need-size-requires

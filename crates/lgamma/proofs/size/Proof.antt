@@ -17,7 +17,7 @@ below2-requires c κs = search rules
 returns-2 : tie.Need-returns-2
 returns-2 c =
     let e = c.before.before in
-    code.size-below2 lgamma64 _ _ e.before.is-one-or-two.ensures e.if1.false c.before.if2.true c.below2.ensures
+    code.size_below2 lgamma64 _ _ e.before.is-one-or-two.ensures e.if1.false c.before.if2.true c.below2.ensures
 
 below8-requires : tie.Need-below8-requires
 below8-requires c κs = search rules
@@ -26,7 +26,7 @@ returns-3 : tie.Need-returns-3
 returns-3 c =
     let t = c.before.before in
     let e = t.before in
-    code.size-below8 lgamma64 _ _ e.before.is-one-or-two.ensures e.if1.false t.if2.false c.before.if3.true c.below8.ensures
+    code.size_below8 lgamma64 _ _ e.before.is-one-or-two.ensures e.if1.false t.if2.false c.before.if3.true c.below8.ensures
 
 stirling-requires : tie.Need-stirling-requires
 stirling-requires c κs = search rules
@@ -35,7 +35,7 @@ returns-4 : tie.Need-returns-4
 returns-4 c =
     let t = c.before.before in
     let e = t.before.before in
-    code.size-stirling lgamma64 _ _ e.before.is-one-or-two.ensures e.if1.false t.before.if2.false t.if3.false c.before.if4.true
+    code.size_stirling lgamma64 _ _ e.before.is-one-or-two.ensures e.if1.false t.before.if2.false t.if3.false c.before.if4.true
     c.stirling.ensures
 
 log-requires : tie.Need-log-requires
@@ -45,7 +45,7 @@ returns-5 : tie.Need-returns-5
 returns-5 c =
     let t = c.before.before in
     let e = t.before.before in
-    code.size-large lgamma64 _ _ e.before.is-one-or-two.ensures e.if1.false t.before.if2.false t.if3.false c.before.if4.false
+    code.size_large lgamma64 _ _ e.before.is-one-or-two.ensures e.if1.false t.before.if2.false t.if3.false c.before.if4.false
     c.log.ensures
 
 pub size-spec : {M : Type 1} → statement M

@@ -1,6 +1,6 @@
 -- `log::exponent` meets its contract. Assumes nothing.
 use borrow.Author.Rules.{rules}
-use Rattle.logarithm.proofs.Exponents.{sum_small, power_fits, sum_fits, sum-held}
+use Rattle.logarithm.proofs.Exponents.{sum_small, power_fits, sum_fits, sum_held}
 use Rattle.logarithm.proofs.exponent.Statement.{statement}
 use Rattle.logarithm.proofs.exponent.Tie as tie
 
@@ -18,7 +18,7 @@ add-result c = sum_fits _ _ c.requires.1.0 c.requires.1.1 _ c.ranges.k c.require
 
 returns : tie.Need-returns
 returns c =
-    let e = sum-held _ _ c.requires.1.0 c.requires.1.1 _ c.ranges.k c.requires.0 in
+    let e = sum_held _ _ c.requires.1.0 c.requires.1.1 _ c.ranges.k c.requires.0 in
     (e, rw e (sum_small _ _ c.requires.1.0 c.requires.1.1 c.args.k c.requires.0))
 
 pub exponent-spec : {M : Type 1} → statement M

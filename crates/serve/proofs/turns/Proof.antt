@@ -6,7 +6,7 @@ use native.Mathlib.Omega.{arith}
 use borrow.Author.Rules.{rules}
 use lib.ListN.{length, take}
 use Rattle.session.specs.Post.{Passed}
-use Rattle.session.proofs.LoopLaws.{Going, going_none, going_out, going-close, going-break, going_on}
+use Rattle.session.proofs.LoopLaws.{Going, going_none, going_out, going_close, going_break, going_on}
 use Rattle.serve.specs.Session.{answering}
 use Rattle.serve.proofs.PassLaws.{kept_small}
 use Rattle.serve.proofs.turns.Statement.{statement}
@@ -82,7 +82,7 @@ returns c =
     let k = c.before.code in
     let p = c.before.before.before.before.before.before.before in
     let l = (at p).loop in
-    going-close (answering (room p)) (size p) l.turns (take l.have l.buf) l.inv.1 p.pass.result p.pass.new.0
+    going_close (answering (room p)) (size p) l.turns (take l.have l.buf) l.inv.1 p.pass.result p.pass.new.0
     (passed p) k.given.0.0 k.given.1
 
 enum_told : tie.Need-enum-told invariant-loop decreases-loop
@@ -98,7 +98,7 @@ returns-2 : tie.Need-returns-2 invariant-loop decreases-loop
 returns-2 c =
     let p = c.before.before.before.before.before.before in
     let l = (at p).loop in
-    going-break (answering (room p)) (size p) l.turns (take l.have l.buf) l.inv.1 p.pass.result p.pass.new.0
+    going_break (answering (room p)) (size p) l.turns (take l.have l.buf) l.inv.1 p.pass.result p.pass.new.0
     (passed p) c.enum_told.given.1
 
 same-length-5 : tie.Need-same-length-5 invariant-loop decreases-loop

@@ -47,7 +47,7 @@ returns c =
     let x = s.before.args.x in
     let t = s.turn.ensures in
     c.k-sin.ensures ∙ ap sine c.before.angle.ensures ∙ ap (λ (z : Float). sine ((z ⊖ bits 0) ⊗ PI)) t
-    ∙ quarters.case-0 sine cosine binary64 (turn_s x) (turn_fits x) (turn_not_below x) (rw t at c.before.before.if1.true)
+    ∙ quarters.case_0 sine cosine binary64 (turn_s x) (turn_fits x) (turn_not_below x) (rw t at c.before.before.if1.true)
     ∙ by_turn x
 
 angle-requires-2 : tie.Need-angle-requires-2
@@ -63,7 +63,7 @@ returns-2 c =
     let x = s.before.args.x in
     let t = s.turn.ensures in
     c.k-cos.ensures ∙ ap cosine c.before.angle2.ensures ∙ ap (λ (z : Float). cosine ((z ⊖ bits 0x3FE0000000000000) ⊗ PI)) t
-    ∙ quarters.case-1 sine cosine binary64 (turn_s x) (turn_fits x) (rw t at c.before.before.before.if1.false) (rw t at c.before.before.if2.true)
+    ∙ quarters.case_1 sine cosine binary64 (turn_s x) (turn_fits x) (rw t at c.before.before.before.if1.false) (rw t at c.before.before.if2.true)
     ∙ by_turn x
 
 angle-requires-3 : tie.Need-angle-requires-3
@@ -79,7 +79,7 @@ returns-3 c =
     let x = s.before.args.x in
     let t = s.turn.ensures in
     c.k-sin2.ensures ∙ ap (λ (z : Float). sine (neg z)) c.before.angle3.ensures ∙ ap (λ (z : Float). sine (neg ((z ⊖ bits 0x3FF0000000000000) ⊗ PI))) t
-    ∙ quarters.case-2 sine cosine binary64 (turn_s x) (turn_fits x) (rw t at c.before.before.before.if2.false) (rw t at c.before.before.if3.true)
+    ∙ quarters.case_2 sine cosine binary64 (turn_s x) (turn_fits x) (rw t at c.before.before.before.if2.false) (rw t at c.before.before.if3.true)
     ∙ by_turn x
 
 angle-requires-4 : tie.Need-angle-requires-4
@@ -95,7 +95,7 @@ returns-4 c =
     let x = s.before.args.x in
     let t = s.turn.ensures in
     ap neg c.k-cos2.ensures ∙ ap (λ (z : Float). neg (cosine z)) c.before.angle4.ensures ∙ ap (λ (z : Float). neg (cosine ((z ⊖ bits 0x3FF8000000000000) ⊗ PI))) t
-    ∙ quarters.case-3 sine cosine binary64 (turn_s x) (turn_fits x) (rw t at c.before.before.before.if3.false) (rw t at c.before.before.if4.true)
+    ∙ quarters.case_3 sine cosine binary64 (turn_s x) (turn_fits x) (rw t at c.before.before.before.if3.false) (rw t at c.before.before.if4.true)
     ∙ by_turn x
 
 angle-requires-5 : tie.Need-angle-requires-5
@@ -114,7 +114,7 @@ returns-5 c =
     c.k-sin3.ensures ∙ ap sine c.before.angle5.ensures ∙ ap (λ (z : Float). sine ((z ⊖ bits 0x4000000000000000) ⊗ PI)) t
     ∙ elim (quarters.turn_at_most binary64 x) [
       | inl n ↦ quarters.case_nan sine cosine binary64 (turn_s x) (turn_of_is x ∙ n)
-      | inr l ↦ quarters.case-4 sine cosine binary64 (turn_s x) (turn_fits x) h (rw (turn_of_is x) l)
+      | inr l ↦ quarters.case_4 sine cosine binary64 (turn_s x) (turn_fits x) h (rw (turn_of_is x) l)
     ]
     ∙ by_turn x
 

@@ -9,7 +9,7 @@ use Rattle.records.specs.Tally.{◌⊞◌}
 use Rattle.records.specs.Run.{one}
 use Rattle.records.specs.declared.Tally.{Tally}
 use Rattle.records.proofs.RunLaws.{sound}
-use Rattle.records.proofs.LoopLaws.{Going, going_none, going_on, going-further, going_done}
+use Rattle.records.proofs.LoopLaws.{Going, going_none, going_on, going_further, going_done}
 use Rattle.stream.proofs.batch.Statement.{statement}
 use Rattle.stream.proofs.batch.Tie as tie
 
@@ -60,7 +60,7 @@ add-requires c κs = let g = on c.before c.if1.false in (omega (arith, g.count, 
 loop-less : tie.Need-loop-smaller invariant-loop decreases-loop
 loop-less c =
     let q = c.before.before in
-    let f = going-further (one table) (sound table) (requests q) (first q) (stood q).loop.answers (after q) (stood q).loop.tally (turn q).step.result (stood q).loop.invariant (turn q).step.ensures c.before.if1.false in
+    let f = going_further (one table) (sound table) (requests q) (first q) (stood q).loop.answers (after q) (stood q).loop.tally (turn q).step.result (stood q).loop.invariant (turn q).step.ensures c.before.if1.false in
     omega (arith, f, (on q c.before.if1.false).inside, ap (λ (t : Tally). t.read) c.add.ensures)
 
 loop-again : tie.Need-loop-preserved invariant-loop decreases-loop

@@ -12,7 +12,7 @@ use Rattle.records.specs.Row.{row_in}
 use Rattle.replies.specs.Table.{table}
 use Rattle.records.proofs.ReplyLaws.{length_bytes}
 use Rattle.replies.proofs.TableLaws.{row_width, reply_longest}
-use Rattle.records.proofs.StepLaws.{at_end, at_unknown, at_cut, at-full, at-whole, did_stop, did_took}
+use Rattle.records.proofs.StepLaws.{at_end, at_unknown, at_cut, at_full, at_whole, did_stop, did_took}
 use Rattle.stream.proofs.BatchLaws.{answered}
 use Rattle.stream.proofs.step.Statement.{statement}
 use Rattle.stream.proofs.step.Tie as tie
@@ -124,7 +124,7 @@ returns-4 c =
     let b = looked p in
     let n = length_bytes p.reply-to.result in
     did_stop _ _ 3 (out b) (answers b) c.stopped4.ensures
-    (at-full table (s b) (at b) (room b) b.body.result (omega arith) (width_is b) (reply p) (reply_is p) p.before.before.before.if2.false (omega arith) (omega arith))
+    (at_full table (s b) (at b) (room b) b.body.result (omega arith) (width_is b) (reply p) (reply_is p) p.before.before.before.if2.false (omega arith) (omega arith))
 
 write-requires : tie.Need-write-requires
 write-requires c κs = search rules
@@ -145,7 +145,7 @@ returns-5 c =
     let b = looked p in
     let n = length_bytes p.reply-to.result in
     did_took _ _ b.body.result _ (out b) (reply p) (answers b) w.write.new.0 c.took.ensures
-    (at-whole table (s b) (at b) (room b) b.body.result (omega arith) (width_is b) (reply p) (reply_is p) p.before.before.before.if2.false (omega arith) (omega arith))
+    (at_whole table (s b) (at b) (room b) b.body.result (omega arith) (width_is b) (reply p) (reply_is p) p.before.before.before.if2.false (omega arith) (omega arith))
     (sym n) w.write.ensures
 
 pub step_spec : {M : Type 1} → statement M

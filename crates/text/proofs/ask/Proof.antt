@@ -10,7 +10,7 @@ use Rattle.text.specs.Rows.{row_at}
 use Rattle.text.specs.declared.names.Row.{Row}
 use Rattle.text.specs.declared.Asked.{Asked}
 use Rattle.text.specs.declared.Asked.TheVariants.{Bad, Ask}
-use Rattle.text.proofs.HeadLaws.{name_inside, ask-next}
+use Rattle.text.proofs.HeadLaws.{name_inside, ask_next}
 use Rattle.text.proofs.ask.Statement.{statement}
 use Rattle.text.proofs.ask.Tie as tie
 
@@ -30,7 +30,7 @@ told c a e =
     let n = c.before.name in
     let r : asked_as (take (row_at names l.i).length (row_at names l.i).head) (row_at names l.i).kind s ≡ a =
     ap (λ (x : Row). asked_as (take x.length x.head) x.kind s) (sym n.ensures) ∙ sym c.ask-as.ensures ∙ e in
-    sym (ask-next l.i s a (omega arith) r) ∙ l.invariant.1
+    sym (ask_next l.i s a (omega arith) r) ∙ l.invariant.1
 
 loop-holds : tie.Need-loop-init invariant-loop decreases-loop
 loop-holds c = (omega arith, refl)

@@ -13,7 +13,7 @@ use Rattle.text.specs.Text.{cut}
 use Rattle.text.specs.Typing.{turn_on}
 use Rattle.console.specs.Post.{Wrote, Turned, last_reply}
 use Rattle.console.specs.declared.relay.Round.{Round}
-use Rattle.console.proofs.TurnLaws.{front, front_in, front_length, open_wrote, open_light, end-wrote, end-light, line_is, read_in, open-turned}
+use Rattle.console.proofs.TurnLaws.{front, front_in, front_length, open_wrote, open_light, end_wrote, end_light, line_is, read_in, open_turned}
 use Rattle.console.proofs.relay.answer.Statement.{statement}
 use Rattle.console.proofs.relay.answer.Tie as tie
 
@@ -55,12 +55,12 @@ last c =
     (line_is a.buf.now a.have (before t) (after t) t.reply_lines.result (start t).pre.0 t.reply_lines.ensures) c.put_last.ensures
 
 wrote_all : (c : tie.After-put-last) → Wrote (turn_on table true (text (lines c))).bytes 0 c.put_last.result (before (lines c)) c.put_last.new.0
-wrote_all c = let t = lines c in end-wrote (text t) (before t) (after t) t.reply_lines.result t.reply_lines.ensures c.put_last.new.0 c.put_last.result (last c)
+wrote_all c = let t = lines c in end_wrote (text t) (before t) (after t) t.reply_lines.result t.reply_lines.ensures c.put_last.new.0 c.put_last.result (last c)
 
 fits_all : (c : tie.After-put-last) → c.put_last.result ≤ length (before (lines c))
 fits_all c =
     let t = lines c in
-    omega (arith, end-light (text t) (before t) (after t) t.reply_lines.result t.reply_lines.ensures c.put_last.new.0 c.put_last.result (last c), text_length t, (start t).pre.1.0)
+    omega (arith, end_light (text t) (before t) (after t) t.reply_lines.result t.reply_lines.ensures c.put_last.new.0 c.put_last.result (last c), text_length t, (start t).pre.1.0)
 
 slice-reshare-prefix-reply-lines : tie.Need-slice-reshare-prefix-reply-lines
 slice-reshare-prefix-reply-lines c = search rules
@@ -152,7 +152,7 @@ returns-2 c =
     let a = (start t).args in
     let r : Round = record { kept = k.keeps.result; sent = k.before.send2.result } in
     subst (λ (b : Bool). Turned (turn_on table b (text t)) r m.to_front.new.0) (sym e.if1.false)
-    (open-turned a.buf.now a.have (before t) (after t) t.reply_lines.result (start t).requires.0 t.reply_lines.ensures r m.to_front.new.0 k.keeps.ensures
+    (open_turned a.buf.now a.have (before t) (after t) t.reply_lines.result (start t).requires.0 t.reply_lines.ensures r m.to_front.new.0 k.keeps.ensures
     m.to_front.ensures)
 
 pub answer-spec : {M : Type 1} → statement M

@@ -13,7 +13,7 @@ use Rattle.text.specs.Reply.{shown}
 use Rattle.text.specs.declared.Asked.TheVariants.{Ask}
 use Rattle.text.proofs.LineLaws.{good_length}
 use Rattle.console.specs.Post.{Wrote}
-use Rattle.console.proofs.WriteLaws.{bad_wrote, reply_narrow, ask-wrote}
+use Rattle.console.proofs.WriteLaws.{bad_wrote, reply_narrow, ask_wrote}
 use Rattle.console.proofs.relay.put_reply.Statement.{statement}
 use Rattle.console.proofs.relay.put_reply.Tie as tie
 
@@ -91,7 +91,7 @@ returns-2 c =
     let r = t.before in
     let a = (start r).args in
     let w = subst (λ (x : Reply). Wrote (closed (shown x)) (a.at + length (line r)) t.put-answer.result (copied r).put-all2.new.0 t.put-answer.new.0) r.reply-to.ensures t.put-answer.ensures in
-    ask-wrote (line r) a.out.now t.put-answer.new.0 a.at t.put-answer.result (kind r) (bits r) (asks r) (copied r).put-all2.new.0
+    ask_wrote (line r) a.out.now t.put-answer.new.0 a.at t.put-answer.result (kind r) (bits r) (asks r) (copied r).put-all2.new.0
     (copied r).put-all2.ensures w
 
 pub put-reply-spec : {M : Type 1} → statement M

@@ -11,7 +11,7 @@ use Rattle.replies.specs.Table.{table}
 use Rattle.text.specs.Text.{closed}
 use Rattle.text.specs.Reply.{reply_to}
 use Rattle.console.specs.Post.{Wrote}
-use Rattle.console.proofs.LineLoop.{Looked, looked_none, looked_same, looked_as, looked_all, line, line_is, looked_on, looked-line}
+use Rattle.console.proofs.LineLoop.{Looked, looked_none, looked_same, looked_as, looked_all, line, line_is, looked_on, looked_line}
 use Rattle.console.proofs.relay.reply_lines.Statement.{statement}
 use Rattle.console.proofs.relay.reply_lines.Tie as tie
 
@@ -63,7 +63,7 @@ loop-again c =
     subst (λ (x : List ℕ). Wrote (closed (reply_to table x)) l.written p.result l.out p.last.0)
     (line_is s a.out.now l.out l.i l.read l.written l.invariant h) p.ensures in
     looked_as s a.out.now p.last.0 _ (l.i + 1) (l.i + 1) _ p.result _ w.6 w.7 w.8
-    (looked-line s a.out.now l.out l.i l.read l.written l.invariant h p.result p.last.0 g w.0.taken))
+    (looked_line s a.out.now l.out l.i l.read l.written l.invariant h p.result p.last.0 g w.0.taken))
     (λ w.
     looked_as s a.out.now l.out _ (l.i + 1) l.read _ l.written _ w.1 w.2 w.3
     (looked_on s a.out.now l.out l.i l.read l.written l.invariant h w.0.left))

@@ -17,7 +17,7 @@ returns c =
     let m = c.before.multiple in
     let a = c.before.before.before.args in
     c.reduced.ensures
-    ∙ code.by-multiple exp32 a.x a.hx a.sign m.result (sfits_of m.type-inv) m.ensures c.before.before.if1.true
+    ∙ code.by_multiple exp32 a.x a.hx a.sign m.result (sfits_of m.type-inv) m.ensures c.before.before.if1.true
 
 primary-requires : tie.Need-primary-requires
 primary-requires c κs = search rules

@@ -17,7 +17,7 @@ scalbnf-requires c κs = search rules
 returns : tie.Need-returns
 returns c =
     let s = c.before.before.before in
-    code.not-scaled exp32 _ s.args.x s.args.hi s.args.lo s.args.k s.ranges.k c.before.hornerf.ensures c.if1.true
+    code.not_scaled exp32 _ s.args.x s.args.hi s.args.lo s.args.k s.ranges.k c.before.hornerf.ensures c.if1.true
 
 returns-2 : tie.Need-returns-2
 returns-2 c =

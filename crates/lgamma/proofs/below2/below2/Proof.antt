@@ -15,7 +15,7 @@ added-requires : tie.Need-added-requires
 added-requires c κs = search rules
 
 returns : tie.Need-returns
-returns c = code.below2-by lgamma64 _ _ c.before.segment-at.ensures c.added.ensures c.before.before.start.ensures
+returns c = code.below2_by lgamma64 _ _ c.before.segment-at.ensures c.added.ensures c.before.before.start.ensures
 
 pub below2-spec : {M : Type 1} → statement M
 below2-spec = tie.close (tie.spec start-requires segment-at-requires added-requires returns)

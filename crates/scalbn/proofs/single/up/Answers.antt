@@ -11,22 +11,22 @@ overflow_sub-n1 c =
 pub overflow_sub-n2 : goal.overflow_sub-n2
 overflow_sub-n2 c =
     let s = c in
-    code.up2-fits binary32 s.args.n s.ranges.n s.requires c.if-n1-gt-EXP_MAX.true
+    code.up2_fits binary32 s.args.n s.ranges.n s.requires c.if-n1-gt-EXP_MAX.true
 
 pub returns-then-n2-gt-EXP_MAX : goal.returns-then-n2-gt-EXP_MAX
 returns-then-n2-gt-EXP_MAX c =
     let s = c in
-    cc (code.up-thrice binary32 s.args.n s.ranges.n s.requires c.if-n1-gt-EXP_MAX.true s.args.x c.if-n2-gt-EXP_MAX.true)
+    cc (code.up_thrice binary32 s.args.n s.ranges.n s.requires c.if-n1-gt-EXP_MAX.true s.args.x c.if-n2-gt-EXP_MAX.true)
 
 pub power-requires-then-n1-gt-EXP_MAX-2 : goal.power-requires-then-n1-gt-EXP_MAX-2
 power-requires-then-n1-gt-EXP_MAX-2 c =
     let s = c in
-    code.up2-normal binary32 s.args.n s.ranges.n s.requires c.if-n1-gt-EXP_MAX.true c.if-n2-gt-EXP_MAX.false
+    code.up2_normal binary32 s.args.n s.ranges.n s.requires c.if-n1-gt-EXP_MAX.true c.if-n2-gt-EXP_MAX.false
 
 pub returns-then-n1-gt-EXP_MAX : goal.returns-then-n1-gt-EXP_MAX
 returns-then-n1-gt-EXP_MAX c =
     let s = c in
-    cc (code.up-twice binary32 s.args.n s.ranges.n s.requires c.if-n1-gt-EXP_MAX.true s.args.x c.if-n2-gt-EXP_MAX.false)
+    cc (code.up_twice binary32 s.args.n s.ranges.n s.requires c.if-n1-gt-EXP_MAX.true s.args.x c.if-n2-gt-EXP_MAX.false)
 
 pub power-requires-2 : goal.power-requires-2
 power-requires-2 c =

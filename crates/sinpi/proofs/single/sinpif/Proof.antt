@@ -78,7 +78,7 @@ returns-2 c =
     let x = s.before.args.x in
     let t = s.turn.ensures in
     c.k-sinf.ensures ∙ ap k_sinf_s c.before.angle.ensures ∙ ap (λ (z : Float). k_sinf_s ((z ⊖ bits 0) ⊗ PI)) t
-    ∙ quarters.case-0 k_sinf_s k_cosf_s binary32 (turn_s x) (turn_fits x) (turnf_not_below x) (rw t at c.before.before.if2.true)
+    ∙ quarters.case_0 k_sinf_s k_cosf_s binary32 (turn_s x) (turn_fits x) (turnf_not_below x) (rw t at c.before.before.if2.true)
     ∙ by_turn x
 
 angle-requires-2 : tie.Need-angle-requires-2
@@ -94,7 +94,7 @@ returns-3 c =
     let x = s.before.args.x in
     let t = s.turn.ensures in
     c.k-cosf.ensures ∙ ap k_cosf_s c.before.angle2.ensures ∙ ap (λ (z : Float). k_cosf_s ((z ⊖ bits 0x3FE0000000000000) ⊗ PI)) t
-    ∙ quarters.case-1 k_sinf_s k_cosf_s binary32 (turn_s x) (turn_fits x) (rw t at c.before.before.before.if2.false) (rw t at c.before.before.if3.true)
+    ∙ quarters.case_1 k_sinf_s k_cosf_s binary32 (turn_s x) (turn_fits x) (rw t at c.before.before.before.if2.false) (rw t at c.before.before.if3.true)
     ∙ by_turn x
 
 angle-requires-3 : tie.Need-angle-requires-3
@@ -110,7 +110,7 @@ returns-4 c =
     let x = s.before.args.x in
     let t = s.turn.ensures in
     c.k-sinf2.ensures ∙ ap (λ (z : Float). k_sinf_s (neg z)) c.before.angle3.ensures ∙ ap (λ (z : Float). k_sinf_s (neg ((z ⊖ bits 0x3FF0000000000000) ⊗ PI))) t
-    ∙ quarters.case-2 k_sinf_s k_cosf_s binary32 (turn_s x) (turn_fits x) (rw t at c.before.before.before.if3.false) (rw t at c.before.before.if4.true)
+    ∙ quarters.case_2 k_sinf_s k_cosf_s binary32 (turn_s x) (turn_fits x) (rw t at c.before.before.before.if3.false) (rw t at c.before.before.if4.true)
     ∙ by_turn x
 
 angle-requires-4 : tie.Need-angle-requires-4
@@ -126,7 +126,7 @@ returns-5 c =
     let x = s.before.args.x in
     let t = s.turn.ensures in
     ap neg c.k-cosf2.ensures ∙ ap (λ (z : Float). neg (k_cosf_s z)) c.before.angle4.ensures ∙ ap (λ (z : Float). neg (k_cosf_s ((z ⊖ bits 0x3FF8000000000000) ⊗ PI))) t
-    ∙ quarters.case-3 k_sinf_s k_cosf_s binary32 (turn_s x) (turn_fits x) (rw t at c.before.before.before.if4.false) (rw t at c.before.before.if5.true)
+    ∙ quarters.case_3 k_sinf_s k_cosf_s binary32 (turn_s x) (turn_fits x) (rw t at c.before.before.before.if4.false) (rw t at c.before.before.if5.true)
     ∙ by_turn x
 
 angle-requires-5 : tie.Need-angle-requires-5
@@ -145,7 +145,7 @@ returns-6 c =
     c.k-sinf3.ensures ∙ ap k_sinf_s c.before.angle5.ensures ∙ ap (λ (z : Float). k_sinf_s ((z ⊖ bits 0x4000000000000000) ⊗ PI)) t
     ∙ elim (quarters.turn_at_most binary32 x) [
       | inl n ↦ quarters.case_nan k_sinf_s k_cosf_s binary32 (turn_s x) (turn_of_is x ∙ n)
-      | inr l ↦ quarters.case-4 k_sinf_s k_cosf_s binary32 (turn_s x) (turn_fits x) h (rw (turn_of_is x) l)
+      | inr l ↦ quarters.case_4 k_sinf_s k_cosf_s binary32 (turn_s x) (turn_fits x) h (rw (turn_of_is x) l)
     ]
     ∙ by_turn x
 

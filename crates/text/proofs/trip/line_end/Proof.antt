@@ -5,7 +5,7 @@ use native.Mathlib.Omega.{arith}
 use borrow.Author.Rules.{rules}
 use lib.ListN.{length, drop}
 use Rattle.text.specs.Trip.{first_line}
-use Rattle.text.proofs.PlaceLaws.{first_end, first-here, first_more}
+use Rattle.text.proofs.PlaceLaws.{first_end, first_here, first_more}
 use Rattle.text.proofs.trip.line_end.Statement.{statement}
 use Rattle.text.proofs.trip.line_end.Tie as tie
 
@@ -25,7 +25,7 @@ returns : tie.Need-returns invariant-loop decreases-loop
 returns c =
     let l = c.before.before.before.loop in
     let s = c.before.before.before.before.args.text.now in
-    omega (arith, ap length (first-here s l.i (omega arith) c.if1.true), l.invariant.1)
+    omega (arith, ap length (first_here s l.i (omega arith) c.if1.true), l.invariant.1)
 
 add-i : tie.Need-overflow-add-i invariant-loop decreases-loop
 add-i c = search rules

@@ -6,7 +6,7 @@ use native.Mathlib.Omega.{arith}
 use lib.ListN.{length}
 use Rattle.records.specs.Tally.{◌⊞◌}
 use Rattle.records.specs.declared.Tally.{Tally}
-use Rattle.records.proofs.LoopLaws.{Going, going_none, going_on, going-further, going_done}
+use Rattle.records.proofs.LoopLaws.{Going, going_none, going_on, going_further, going_done}
 use Rattle.text.specs.Names.{names}
 use Rattle.text.specs.Trip.{to_request}
 use Rattle.text.proofs.TripLaws.{request_lawful}
@@ -45,7 +45,7 @@ module _ (q : tie.After-struct-known invariant-loop decreases-loop) where
     on = going_on (to_request names) (request_lawful names) source first stood.loop.requests after tally turn.request-step.result stood.loop.inv turn.request-step.ensures z
 
     further : 0 < turn.request-step.result.tally.read
-    further = going-further (to_request names) (request_lawful names) source first stood.loop.requests after tally turn.request-step.result stood.loop.inv turn.request-step.ensures z
+    further = going_further (to_request names) (request_lawful names) source first stood.loop.requests after tally turn.request-step.result stood.loop.inv turn.request-step.ensures z
 
 loop-holds : tie.Need-loop-init invariant-loop decreases-loop
 loop-holds c = going_none (to_request names) _ _

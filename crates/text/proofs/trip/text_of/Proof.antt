@@ -6,7 +6,7 @@ use native.Mathlib.Omega.{arith}
 use lib.ListN.{length}
 use Rattle.records.specs.Tally.{◌⊞◌}
 use Rattle.records.specs.declared.Tally.{Tally}
-use Rattle.records.proofs.LoopLaws.{Going, going_none, going_on, going-further, going_done}
+use Rattle.records.proofs.LoopLaws.{Going, going_none, going_on, going_further, going_done}
 use Rattle.text.specs.Names.{names}
 use Rattle.text.specs.Trip.{to_line}
 use Rattle.text.proofs.TripLaws.{line_lawful}
@@ -45,7 +45,7 @@ module _ (q : tie.After-struct-known invariant-loop decreases-loop) where
     on = going_on (to_line names) (line_lawful names) source first stood.loop.text after tally turn.line_step.result stood.loop.inv turn.line_step.ensures z
 
     further : 0 < turn.line_step.result.tally.read
-    further = going-further (to_line names) (line_lawful names) source first stood.loop.text after tally turn.line_step.result stood.loop.inv turn.line_step.ensures z
+    further = going_further (to_line names) (line_lawful names) source first stood.loop.text after tally turn.line_step.result stood.loop.inv turn.line_step.ensures z
 
 loop-holds : tie.Need-loop-init invariant-loop decreases-loop
 loop-holds c = going_none (to_line names) _ _
