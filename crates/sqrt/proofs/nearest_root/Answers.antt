@@ -1,9 +1,8 @@
 -- `sqrt::nearest_root` meets its contract. Assumes nothing.
-use mathlib.Core.Logic.{⊎_elim}
-use Prim.Native.Nat.{◌-◌}
 use native.Mathlib.Omega.{arith}
-use Rattle.sqrt.proofs.Turns.{Taken, at_first, root_short, root_shorter, digit_one, digit_zero, next_up, stays}
+use Rattle.sqrt.proofs.Turns.{at_first, root_short, root_shorter, digit_one, digit_zero, next_up, stays}
 use Rattle.sqrt.proofs.nearest_root.Goals as goal
+use Rattle.sqrt.proofs.nearest_root.Goals.{then-rest-root, else-rest-root}
 
 pub overflow_mul-left : goal.overflow_mul-left
 overflow_mul-left c = omega arith
@@ -47,10 +46,10 @@ loop-i-smaller c = omega arith
 pub loop-i-preserved : goal.loop-i-preserved
 loop-i-preserved c =
     let t = c.loop-i.invariant in
-    ⊎_elim
-    (λ w. rw (w.1, w.2) (digit_one _ _ _ _ _ t (omega arith) w.0.taken))
-    (λ w. rw (w.1, w.2) (digit_zero _ _ _ _ _ t (omega arith) w.0.left))
-    c.if-rest-root.branch
+    elim c.if-rest-root.branch [
+      | then-rest-root w ↦ rw (w.root-is, w.rest-is) (digit_one _ _ _ _ _ t (omega arith) w.if-rest-root.true)
+      | else-rest-root w ↦ rw (w.root-is, w.rest-is) (digit_zero _ _ _ _ _ t (omega arith) w.if-rest-root.false)
+    ]
 
 pub overflow_add-result : goal.overflow_add-result
 overflow_add-result c = omega (arith, root_short _ _ _ _ _ c.loop-i.invariant)

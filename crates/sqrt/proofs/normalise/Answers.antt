@@ -7,7 +7,6 @@ use native.Mathlib.Omega.{arith}
 use lib.Count.{count_leading_zeros}
 use lib.Ieee.{binary64, of_bits}
 use lib.Ieee.Exact.{HasValue}
-use borrow.Author.Rules.{rules}
 use Rattle.sqrt.proofs.Scaled.{moved, subnormal_value, normal_value}
 use Rattle.sqrt.proofs.normalise.Goals as goal
 
@@ -28,13 +27,13 @@ returns-then-e-eq0 c =
     let b = c.args.ix in
     let t = moved b (omega arith) (omega arith) in
     let l = count_leading_zeros 64 b - 11 in
-    let e : b * 2 ^ l % 2 ^ 64 ≡ b * 2 ^ l = mod-eq_of_lt (omega arith) in (
-      subst (λ (m : ℕ). HasValue (of_bits binary64 b) false (m * 2 ^ (1024 - l)) (2 ^ 2098)) (sym e) (subnormal_value b l (omega arith) (omega arith)),
-      (rw e t.from, rw e t.upto, omega arith, omega arith),
-    )
+    let e : b * 2 ^ l % 2 ^ 64 ≡ b * 2 ^ l = mod-eq_of_lt (omega arith) in record {
+      has_value = subst (λ (m : ℕ). HasValue (of_bits binary64 b) false (m * 2 ^ (1024 - l)) (2 ^ 2098)) (sym e) (subnormal_value b l (omega arith) (omega arith));
+      bound = (rw e t.from, rw e t.upto, omega arith, omega arith);
+    }
 
 pub returns : goal.returns
-returns c = (
-  normal_value c.args.ix (omega arith) (omega arith),
-  (omega arith, omega arith, omega arith, omega arith),
-)
+returns c = record {
+  has_value = normal_value c.args.ix (omega arith) (omega arith);
+  bound = (omega arith, omega arith, omega arith, omega arith);
+}

@@ -1,7 +1,6 @@
 -- `sqrt::root_bits` meets its contract. Assumes nothing.
 use Prim.Native.Nat.{◌*◌, ◌^◌}
 use native.Mathlib.Omega.{arith}
-use borrow.Author.Rules.{rules}
 use Rattle.sqrt.proofs.Positive.{upto, even_part, odd_part, root_at}
 use Rattle.sqrt.proofs.root_bits.Goals as goal
 
@@ -16,7 +15,7 @@ returns-then-b-eq0 c =
     let x = c.normalise-x in
     let m = x.result.m in
     let b = x.result.b in
-    root_at _ (m * 2 ^ b) b m c.nearest_root.result x.ensures.0 (even_part m b c.if-b-eq0.true)
+    root_at _ (m * 2 ^ b) b m c.nearest_root.result x.ensures.has_value (even_part m b c.if-b-eq0.true)
     (omega arith) (omega arith) (omega arith) (omega arith) c.nearest_root.ensures
 
 pub overflow_add-result-2 : goal.overflow_add-result-2
@@ -30,5 +29,5 @@ returns c =
     let x = c.normalise-x in
     let m = x.result.m in
     let b = x.result.b in
-    root_at _ (m * 2 ^ b) b (m * 2) c.nearest_root-2.result x.ensures.0 (odd_part m b c.if-b-eq0.false)
+    root_at _ (m * 2 ^ b) b (m * 2) c.nearest_root-2.result x.ensures.has_value (odd_part m b c.if-b-eq0.false)
     (omega arith) (omega arith) (omega arith) (omega arith) c.nearest_root-2.ensures

@@ -3,7 +3,6 @@ use mathlib.Core.Path.{◌∙◌, ap}
 use Prim.Native.Nat.{ℕ}
 use native.Mathlib.Omega.{arith}
 use lib.Ieee.{binary64, of_bits, div}
-use borrow.Author.Rules.{rules}
 use Rattle.sqrt.specs.Sqrt.{sqrt_s}
 use Rattle.sqrt.proofs.Special.{zero_stays, infinity_stays, no_root, of_own_bits}
 use Rattle.sqrt.proofs.sqrt.Goals as goal
