@@ -2,14 +2,14 @@
 use mathlib.Core.Path.{◌≡◌, refl, sym, ap, ◌∙◌, subst}
 use mathlib.Core.Bool.{Bool, true, false}
 use mathlib.Core.List.{List, [], ◌∷◌, ◌++◌, append-nil}
-use mathlib.Core.Logic.{◌⊎◌, inl, inr, ⊎_elim}
+use mathlib.Core.Logic.{◌⊎◌, inl, inr}
 use Prim.Native.Nat.{ℕ, ◌+◌, ◌-◌, ◌≤◌, ◌<◌}
 use native.Mathlib.Omega.{arith}
 use lib.ListN.{length, drop}
-use Rattle.records.specs.Codes.{DONE, UNKNOWN, FULL}
+use Rattle.records.specs.Codes.{DONE, UNKNOWN}
 use Rattle.records.specs.Row.{Row}
 use Rattle.records.specs.Run.{Out}
-use Rattle.feeding.specs.Feed.{State, Open, Stopped, begun, Call, ends, goes, turn, takes, call, Close, over, close}
+use Rattle.feeding.specs.Feed.{State, Open, Stopped, begun, Call, ends, goes, turn, takes, call, over, close}
 use Rattle.feeding.specs.Host.{Longest}
 use Rattle.feeding.specs.Promises.{Good, GoesOn}
 use Rattle.feeding.proofs.TakeLaws.{byte_elim, takes_good, call_open, Ample, takes_more}

@@ -2,19 +2,19 @@
 use mathlib.Core.Path.{◌≡◌, refl, sym, ap, ◌∙◌, subst}
 use mathlib.Core.Bool.{true}
 use mathlib.Core.List.{List, [], ◌∷◌, ◌++◌}
-use mathlib.Core.Logic.{◌⊎◌, inl, inr, ⊎_elim}
-use Prim.Native.Nat.{ℕ, suc, ◌+◌, ◌-◌, ◌≤◌, ◌<◌}
+use mathlib.Core.Logic.{inl, inr, ⊎_elim}
+use Prim.Native.Nat.{ℕ, ◌-◌, ◌≤◌}
 use native.Mathlib.Omega.{arith}
 use borrow.Author.Tests.{lt-ltb}
-use lib.ListN.{length, drop, length-append}
+use lib.ListN.{length, length-append}
 use Rattle.digits.specs.Digits.{word}
-use Rattle.records.specs.Codes.{DONE, UNKNOWN, CUT, FULL}
+use Rattle.records.specs.Codes.{CUT}
 use Rattle.records.specs.Reply.{bytes_of}
 use Rattle.records.specs.Row.{Row, row_in}
 use Rattle.records.specs.Run.{Out, stop, one}
 use Rattle.records.proofs.RunLaws.{choose_elim}
-use Rattle.feeding.specs.Feed.{State, Open, Stopped, begun, Call, ends, goes, turn, takes, call}
-use Rattle.feeding.specs.Promises.{Good, Starts, Within, Ended, used_up, unknown, no_room, Ends}
+use Rattle.feeding.specs.Feed.{Open, Stopped, begun, Call, goes, turn, takes}
+use Rattle.feeding.specs.Promises.{Starts, Within, Ended, used_up, unknown, no_room, Ends}
 use Rattle.feeding.proofs.TakeLaws.{byte_elim, begun_none, call_open, drop_one}
 use Rattle.feeding.proofs.RecordLaws.{begun_cut}
 use Rattle.feeding.proofs.CallLaws.{call_good, stopped_stays}

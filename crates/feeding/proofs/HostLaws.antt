@@ -8,11 +8,11 @@ use native.Mathlib.Omega.{arith}
 use borrow.Author.Tests.{lt-ltb}
 use lib.ListN.{length, take, drop, length-append, length-drop, take-append-drop}
 use lib.Seq.{drop-nil, drop-drop, drop-append-le, drop-length}
-use Rattle.records.specs.Codes.{DONE, UNKNOWN, CUT, FULL}
+use Rattle.records.specs.Codes.{DONE, UNKNOWN, FULL}
 use Rattle.records.specs.Row.{Row, row_in}
-use Rattle.records.specs.Run.{Out, stop, one, run}
+use Rattle.records.specs.Run.{stop, one, run}
 use Rattle.records.proofs.SplitLaws.{run_ends}
-use Rattle.feeding.specs.Feed.{State, Open, Stopped, begun, Call, ends, goes, call, Close, over, close}
+use Rattle.feeding.specs.Feed.{State, Open, Stopped, begun, Call, ends, goes, call, Close, close}
 use Rattle.feeding.specs.Host.{Offer, host, Done, Longest, Roomy, counted, offering}
 use Rattle.feeding.specs.Promises.{Same, Good}
 use Rattle.feeding.proofs.TakeLaws.{goes_none, goes_goes, begun_none, call_open}

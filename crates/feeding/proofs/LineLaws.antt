@@ -2,14 +2,14 @@
 use mathlib.Core.Path.{◌≡◌, refl, sym, ap, ◌∙◌, subst}
 use mathlib.Core.List.{List, [], ◌∷◌, ◌++◌, append-nil, append_assoc}
 use mathlib.Core.Logic.{◌⊎◌, inl, inr, ⊎_elim}
-use Prim.Native.Nat.{ℕ, zero, suc, ◌+◌, ◌-◌, ◌≤◌}
+use Prim.Native.Nat.{ℕ, zero, suc, ◌+◌, ◌≤◌}
 use native.Mathlib.Omega.{arith}
 use lib.ListN.{length, take, drop, length-append, length-drop}
 use lib.Seq.{take_all, take-append_seam, drop-drop, drop-append-le}
 use Rattle.records.specs.Codes.{FULL}
 use Rattle.records.specs.Row.{Row}
 use Rattle.records.specs.Run.{run}
-use Rattle.feeding.specs.Feed.{State, Open, Stopped, Call, goes, call, close}
+use Rattle.feeding.specs.Feed.{State, Open, Stopped, Call, goes, call}
 use Rattle.feeding.specs.Host.{Offer, host, Piece, stream, line, again, Done, Longest}
 use Rattle.feeding.specs.Promises.{Same, Good, SamePieces}
 use Rattle.feeding.proofs.TakeLaws.{goes_none, goes_goes, begun_none}

@@ -15,12 +15,12 @@ use Rattle.records.specs.Row.{Row, row_in}
 use Rattle.records.specs.Tally.{nothing}
 use Rattle.records.specs.declared.Tally.{Tally}
 use Rattle.records.specs.Codes.{DONE, UNKNOWN, CUT, FULL}
-use Rattle.records.specs.Run.{Out, stop, took, ahead, choose, one, run}
-use Rattle.records.proofs.RunLaws.{choose_elim, sound, by_refused, by_took, run_stop, run_go, run_within}
+use Rattle.records.specs.Run.{Out, stop, took, ahead, one, run}
+use Rattle.records.proofs.RunLaws.{choose_elim, sound, by_refused, by_took, run_stop, run_go}
 use Rattle.records.proofs.StepLaws.{choose_unknown, choose_cut, choose_full, choose_whole}
 use Rattle.records.proofs.SplitLaws.{ahead_stop, zero_or, run_ends}
 use Rattle.digits.proofs.DigitLaws.{word_append}
-use Rattle.feeding.specs.Feed.{State, Open, Stopped, begun, Call, ends, goes, turn, takes}
+use Rattle.feeding.specs.Feed.{Open, Stopped, begun, Call, ends, goes, turn, takes}
 use Rattle.feeding.proofs.TakeLaws.{goes_none, goes_goes, le_or}
 
 -- ---- within a record

@@ -1,9 +1,9 @@
 -- Laws of `takes` and `call`, over any table: what the next byte can be, and that a piece cut in two is one piece. Assumes nothing.
-use mathlib.Core.Path.{◌≡◌, refl, sym, ap, ◌∙◌, subst}
-use mathlib.Core.Bool.{true, false}
-use mathlib.Core.List.{List, [], ◌∷◌, ◌++◌, append_assoc, append-nil}
+use mathlib.Core.Path.{◌≡◌, refl, sym, ap, ◌∙◌}
+use mathlib.Core.Bool.{true}
+use mathlib.Core.List.{List, [], ◌∷◌, ◌++◌, append_assoc}
 use mathlib.Core.Logic.{◌⊎◌, inl, inr, ⊎_elim}
-use Prim.Native.Nat.{ℕ, zero, suc, ◌+◌, ◌-◌, ◌≤◌, ◌<◌}
+use Prim.Native.Nat.{ℕ, suc, ◌+◌, ◌-◌, ◌≤◌, ◌<◌}
 use native.Mathlib.Nat.{zero-add, add_assoc}
 use native.Mathlib.Omega.{arith}
 use borrow.Author.Tests.{ltb-true, ltb-false, lt-ltb}
@@ -13,10 +13,10 @@ use Rattle.digits.specs.Digits.{word}
 use Rattle.records.specs.Reply.{bytes_of}
 use Rattle.records.specs.Row.{Row, row_in}
 use Rattle.records.specs.Codes.{DONE, UNKNOWN, CUT, FULL}
-use Rattle.records.specs.Run.{Out, stop, took, choose, one}
+use Rattle.records.specs.Run.{Out, stop, took, one}
 use Rattle.records.proofs.RunLaws.{pick_elim, choose_elim}
 use Rattle.records.proofs.StepLaws.{choose_unknown, choose_cut, choose_full, choose_whole}
-use Rattle.feeding.specs.Feed.{State, Open, Stopped, begun, Call, ends, goes, turn, takes, call}
+use Rattle.feeding.specs.Feed.{Open, Stopped, begun, Call, ends, goes, turn, takes, call}
 use Rattle.feeding.specs.Promises.{Good}
 
 pub goes_none : (c : Call) → goes 0 [] c ≡ c

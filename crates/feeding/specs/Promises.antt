@@ -3,7 +3,7 @@ use Rattle.std.specs.Prelude.{ℕ, ◌+◌, ◌-◌, ◌≤◌, ◌<◌, ◌≡�
 use Rattle.records.specs.Codes.{DONE, UNKNOWN, CUT, FULL}
 use Rattle.records.specs.Row.{Row}
 use Rattle.records.specs.Run.{Out, stop, one, run}
-use Rattle.feeding.specs.Feed.{State, Open, Stopped, begun, Call, ends, goes, call, Close, over, close}
+use Rattle.feeding.specs.Feed.{State, Open, Stopped, begun, Call, ends, goes, call, over, close}
 use Rattle.feeding.specs.Host.{Offer, host, Piece, stream, line, again, Done, Longest, Roomy, offering}
 
 -- a feed that calls can leave: it has stopped, or holds the start of a record

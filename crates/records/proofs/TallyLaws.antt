@@ -1,5 +1,5 @@
 -- Laws of adding tallies. Whatever is counted, a run's laws use these alone. Assumes nothing.
-use mathlib.Core.Path.{◌≡◌, sym, ap, ◌∙◌}
+use mathlib.Core.Path.{◌≡◌}
 use native.Mathlib.Nat.{add_assoc, zero-add, add-zero}
 use Rattle.records.specs.Tally.{nothing, ◌⊞◌}
 use Rattle.records.specs.declared.Tally.{Tally}
