@@ -77,12 +77,12 @@ module _ (p : Plan) where
   ratio_s ix s =
       if ix <? at1/0·35 then
       (let r = horner RA s in
-      let big·s = horner SA s in
-      r ⊘ big·s)
+      let big_s = horner SA s in
+      r ⊘ big_s)
       else
       let r = horner RB s in
-      let big·s = horner SB s in
-      r ⊘ big·s
+      let big_s = horner SB s in
+      r ⊘ big_s
 
   unfoldable pub erfc2_s : ℕ → Float → Float
   erfc2_s ix x =

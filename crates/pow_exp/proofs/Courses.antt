@@ -20,11 +20,11 @@ low_of y t = (y ⊖ with_low_word_s y 0) ⊗ t.t1 ⊕ y ⊗ t.t2
 abbrev pub high_of : Float → Parts → Float
 high_of y t = with_low_word_s y 0 ⊗ t.t1
 
-bounded_within : (s p·h p·l z : Float) (j i : ℕ) → j % 2 ^ 31 < 0x40900000 → bounded_s s p·h p·l z j i ≡ exp2_s s p·h p·l j
+bounded_within : (s p_h p_l z : Float) (j i : ℕ) → j % 2 ^ 31 < 0x40900000 → bounded_s s p_h p_l z j i ≡ exp2_s s p_h p_l j
 unfolding bounded_s
-bounded_within s p·h p·l z j i h = go (ltb j 0x80000000) refl
+bounded_within s p_h p_l z j i h = go (ltb j 0x80000000) refl
   where
-    go : (t : Bool) → ltb j 0x80000000 ≡ t → bounded_s s p·h p·l z j i ≡ exp2_s s p·h p·l j
+    go : (t : Bool) → ltb j 0x80000000 ≡ t → bounded_s s p_h p_l z j i ≡ exp2_s s p_h p_l j
     go true e = let l = ltb-true j 0x80000000 e in simp (lt-leb 0x40900000 j (omega arith), lt-leb 0x4090CC00 (j % 0x80000000) (omega arith))
     go false e = simp (e, lt-leb 0x4090CC00 (j % 0x80000000) (omega arith), and-false)
 
@@ -35,6 +35,6 @@ product_within s y t h =
     let z = low_of y t ⊕ high_of y t in
     bounded_within s (high_of y t) (low_of y t) z (high_word_s z) (low_word_s z) h
 
-pub exp2_near : (s p·h p·l : Float) (j : ℕ) → j % 2 ^ 31 ≤ 0x3FE00000 → exp2_s s p·h p·l j ≡ s ⊗ scaled_s (fraction_s p·h p·l) (pos 0)
+pub exp2_near : (s p_h p_l : Float) (j : ℕ) → j % 2 ^ 31 ≤ 0x3FE00000 → exp2_s s p_h p_l j ≡ s ⊗ scaled_s (fraction_s p_h p_l) (pos 0)
 unfolding exp2_s
-exp2_near s p·h p·l j h = simp (le-ltb _ _ h)
+exp2_near s p_h p_l j h = simp (le-ltb _ _ h)

@@ -25,10 +25,10 @@ fraction_e =
 
 -- t and e
 abbrev pub t_of : Float → Float → Float
-t_of p·h p·l = with_low_word_s (p·l ⊕ p·h) 0
+t_of p_h p_l = with_low_word_s (p_l ⊕ p_h) 0
 
 abbrev pub e_of : Float → Float → Float
-e_of p·h p·l = p·l ⊖ (t_of p·h p·l ⊖ p·h)
+e_of p_h p_l = p_l ⊖ (t_of p_h p_l ⊖ p_h)
 
 -- the last lines, where the polynomial has the value R
 last : Float → Float → Float → Float → Float
@@ -36,10 +36,10 @@ last z w t R =
     let t1 = z ⊖ t ⊗ R in
     1·0 ⊖ ((z ⊗ t1) ⊘ (t1 ⊖ 2·0) ⊖ (w ⊕ z ⊗ w) ⊖ z)
 
-pub fraction_is : (p·h p·l : Float) → eval binary64 (t_of p·h p·l ∷ e_of p·h p·l ∷ []) fraction_e ≡ fraction_s p·h p·l
+pub fraction_is : (p_h p_l : Float) → eval binary64 (t_of p_h p_l ∷ e_of p_h p_l ∷ []) fraction_e ≡ fraction_s p_h p_l
 unfolding eval fraction_s last
-fraction_is p·h p·l = ap (last _ _ _) (horner_is binary64 P (var 0) _)
+fraction_is p_h p_l = ap (last _ _ _) (horner_is binary64 P (var 0) _)
 
-pub fraction_fits : (p·h p·l : Float) → T (fits binary64 (fraction_s p·h p·l))
+pub fraction_fits : (p_h p_l : Float) → T (fits binary64 (fraction_s p_h p_l))
 unfolding fraction_s
-fraction_fits p·h p·l = sub-fits binary64 _ _
+fraction_fits p_h p_l = sub-fits binary64 _ _

@@ -52,12 +52,12 @@ scaled_s z n =
     let j = (j + word n * 2 ^ 20) % 2 ^ 32 in
     if j <? 2 ^ 20 || j ≥? 2 ^ 31 then scalbn_s binary64 z n else with_high_word_s z j
 
--- 2 ** (p·h + p·l) after n is taken off: from `let t: f64 = with_set_low_word(p_l + p_h, 0)` to `z = 1.0 - (r - z)`
+-- 2 ** (p_h + p_l) after n is taken off: from `let t: f64 = with_set_low_word(p_l + p_h, 0)` to `z = 1.0 - (r - z)`
 unfoldable pub fraction_s : Float → Float → Float
-fraction_s p·h p·l =
-    let t = with_low_word_s (p·l ⊕ p·h) 0 in
+fraction_s p_h p_l =
+    let t = with_low_word_s (p_l ⊕ p_h) 0 in
     let u = t ⊗ LG2_H in
-    let v = (p·l ⊖ (t ⊖ p·h)) ⊗ LG2 ⊕ t ⊗ LG2_L in
+    let v = (p_l ⊖ (t ⊖ p_h)) ⊗ LG2 ⊕ t ⊗ LG2_L in
     let z = u ⊕ v in
     let w = v ⊖ (z ⊖ u) in
     let t = z ⊗ z in
@@ -65,10 +65,10 @@ fraction_s p·h p·l =
     let r = (z ⊗ t1) ⊘ (t1 ⊖ 2·0) ⊖ (w ⊕ z ⊗ w) in
     1·0 ⊖ (r ⊖ z)
 
--- compute 2**(p·h+p·l). Where |z| > 0.5, n is j plus a half in the digits of j's exponent:
+-- compute 2**(p_h+p_l). Where |z| > 0.5, n is j plus a half in the digits of j's exponent:
 -- `0x00100000 >> (k + 1)` is 2 ^ 20 / 2 ^ (i / 2 ^ 20 - 0x3FE), and `n & !(0x000fffff >> k)` has the lower 20 - k digits cut off.
 unfoldable pub exp2_s : Float → Float → Float → ℕ → Float
-exp2_s s p·h p·l j =
+exp2_s s p_h p_l j =
     let i = j % 2 ^ 31 in
     if i >? 0x3FE00000 then
     (let n = j + 2 ^ 20 / 2 ^ (i / 2 ^ 20 - 0x3FE) in
@@ -76,37 +76,37 @@ exp2_s s p·h p·l j =
     let t = with_high_word_s 0·0 (n / 2 ^ (20 - k) * 2 ^ (20 - k)) in
     let n = pos ((n % 2 ^ 20 + 2 ^ 20) / 2 ^ (20 - k)) in
     let n = if j ≥? 2 ^ 31 then neg_ℤ n else n in
-    s ⊗ scaled_s (fraction_s (p·h ⊖ t) p·l) n)
-    else s ⊗ scaled_s (fraction_s p·h p·l) (pos 0)
+    s ⊗ scaled_s (fraction_s (p_h ⊖ t) p_l) n)
+    else s ⊗ scaled_s (fraction_s p_h p_l) (pos 0)
 
 -- z >= 1024. `(j - 0x40900000) | i` is 0 where j is 0x40900000 and i is 0.
 unfoldable pub large_s : Float → Float → Float → Float → ℕ → ℕ → Float
-large_s s p·h p·l z j i =
+large_s s p_h p_l z j i =
     if not (j =? 0x40900000 && i =? 0) then s ⊗ HUGE ⊗ HUGE
-    else if p·l ⊕ OVT >· z ⊖ p·h then s ⊗ HUGE ⊗ HUGE
-    else exp2_s s p·h p·l j
+    else if p_l ⊕ OVT >· z ⊖ p_h then s ⊗ HUGE ⊗ HUGE
+    else exp2_s s p_h p_l j
 
 -- z <= -1075
 unfoldable pub small_s : Float → Float → Float → Float → ℕ → ℕ → Float
-small_s s p·h p·l z j i =
+small_s s p_h p_l z j i =
     if not (j =? 0xC090CC00 && i =? 0) then s ⊗ TINY ⊗ TINY
-    else if p·l ≤· z ⊖ p·h then s ⊗ TINY ⊗ TINY
-    else exp2_s s p·h p·l j
+    else if p_l ≤· z ⊖ p_h then s ⊗ TINY ⊗ TINY
+    else exp2_s s p_h p_l j
 
 -- `j >= 0x40900000` is of an i32
 unfoldable pub bounded_s : Float → Float → Float → Float → ℕ → ℕ → Float
-bounded_s s p·h p·l z j i =
-    if j ≥? 0x40900000 && j <? 2 ^ 31 then large_s s p·h p·l z j i
-    else if j % 2 ^ 31 ≥? 0x4090CC00 then small_s s p·h p·l z j i
-    else exp2_s s p·h p·l j
+bounded_s s p_h p_l z j i =
+    if j ≥? 0x40900000 && j <? 2 ^ 31 then large_s s p_h p_l z j i
+    else if j % 2 ^ 31 ≥? 0x4090CC00 then small_s s p_h p_l z j i
+    else exp2_s s p_h p_l j
 
 -- split up y into y1+y2 and compute (y1+y2)*(t1+t2)
 unfoldable pub product_s : Float → Float → Parts → Float
 product_s s y t =
     let y1 = with_low_word_s y 0 in
-    let p·l = (y ⊖ y1) ⊗ t.t1 ⊕ y ⊗ t.t2 in
-    let p·h = y1 ⊗ t.t1 in
-    let z = p·l ⊕ p·h in
+    let p_l = (y ⊖ y1) ⊗ t.t1 ⊕ y ⊗ t.t2 in
+    let p_h = y1 ⊗ t.t1 in
+    let z = p_l ⊕ p_h in
     let j = high_word_s z in
     let i = low_word_s z in
-    bounded_s s p·h p·l z j i
+    bounded_s s p_h p_l z j i

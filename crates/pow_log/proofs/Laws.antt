@@ -13,31 +13,31 @@ use Rattle.pow_log.specs.Log2.{L, CP, CP_H, CP_L, BP, DP_H, DP_L, series_s, inte
 use Rattle.pow_log.proofs.Integers.{through, one_more}
 
 pub series :
-    (ax bp t·h dp·h dp·l t s·h hn r·h p·h t1 : Float) →
+    (ax bp t_h dp_h dp_l t s_h hn r_h p_h t1 : Float) →
     (let u = ax ⊖ bp in
     let v = bits 0x3FF0000000000000 ⊘ (ax ⊕ bp) in
     let ss = u ⊗ v in
-    let t·l = ax ⊖ (t·h ⊖ bp) in
-    let s·l = v ⊗ ((u ⊖ s·h ⊗ t·h) ⊖ s·h ⊗ t·l) in
+    let t_l = ax ⊖ (t_h ⊖ bp) in
+    let s_l = v ⊗ ((u ⊖ s_h ⊗ t_h) ⊖ s_h ⊗ t_l) in
     let s2 = ss ⊗ ss in
-    let r = s2 ⊗ s2 ⊗ hn ⊕ s·l ⊗ (s·h ⊕ ss) in
-    let q2 = s·h ⊗ s·h in
-    let r·l = r ⊖ ((r·h ⊖ bits 0x4008000000000000) ⊖ q2) in
-    let uu = s·h ⊗ r·h in
-    let vv = s·l ⊗ r·h ⊕ r·l ⊗ ss in
-    let p·l = vv ⊖ (p·h ⊖ uu) in
-    let z·h = CP_H ⊗ p·h in
-    let z·l = CP_L ⊗ p·h ⊕ p·l ⊗ CP ⊕ dp·l in
-    s·h ≡ with_low_word_s ss 0 → hn ≡ horner_s binary64 L s2 → r·h ≡ with_low_word_s (bits 0x4008000000000000 ⊕ q2 ⊕ r) 0 →
-    p·h ≡ with_low_word_s (uu ⊕ vv) 0 → t1 ≡ with_low_word_s (((z·h ⊕ z·l) ⊕ dp·h) ⊕ t) 0 →
-    ◌≡◌ {A = Parts} (record { t1 = t1; t2 = z·l ⊖ (((t1 ⊖ t) ⊖ dp·h) ⊖ z·h) }) (series_s ax bp t·h dp·h dp·l t))
+    let r = s2 ⊗ s2 ⊗ hn ⊕ s_l ⊗ (s_h ⊕ ss) in
+    let q2 = s_h ⊗ s_h in
+    let r_l = r ⊖ ((r_h ⊖ bits 0x4008000000000000) ⊖ q2) in
+    let uu = s_h ⊗ r_h in
+    let vv = s_l ⊗ r_h ⊕ r_l ⊗ ss in
+    let p_l = vv ⊖ (p_h ⊖ uu) in
+    let z_h = CP_H ⊗ p_h in
+    let z_l = CP_L ⊗ p_h ⊕ p_l ⊗ CP ⊕ dp_l in
+    s_h ≡ with_low_word_s ss 0 → hn ≡ horner_s binary64 L s2 → r_h ≡ with_low_word_s (bits 0x4008000000000000 ⊕ q2 ⊕ r) 0 →
+    p_h ≡ with_low_word_s (uu ⊕ vv) 0 → t1 ≡ with_low_word_s (((z_h ⊕ z_l) ⊕ dp_h) ⊕ t) 0 →
+    ◌≡◌ {A = Parts} (record { t1 = t1; t2 = z_l ⊖ (((t1 ⊖ t) ⊖ dp_h) ⊖ z_h) }) (series_s ax bp t_h dp_h dp_l t))
 unfolding series_s
-series ax bp t·h dp·h dp·l t s·h hn r·h p·h t1 e1 e2 e3 e4 e5 = rw (e5, e4, e3, e2, e1)
+series ax bp t_h dp_h dp_l t s_h hn r_h p_h t1 e1 e2 e3 e4 e5 = rw (e5, e4, e3, e2, e1)
 
-module _ (ax : Float) (ix : ℕ) (n : ℤ) (a t·h : Float) (r : Parts) (is-a : a ≡ with_high_word_s ax ix) where
+module _ (ax : Float) (ix : ℕ) (n : ℤ) (a t_h : Float) (r : Parts) (is-a : a ≡ with_high_word_s ax ix) where
   pub interval_by : (k : ℕ)
-      → t·h ≡ with_high_word_s (bits 0) (ix / 2 + 0x20080000 + k * 0x40000)
-      → r ≡ series_s a (BP k) t·h (DP_H k) (DP_L k) (of_int binary64 n) → r ≡ interval_s ax ix k n
+      → t_h ≡ with_high_word_s (bits 0) (ix / 2 + 0x20080000 + k * 0x40000)
+      → r ≡ series_s a (BP k) t_h (DP_H k) (DP_L k) (of_int binary64 n) → r ≡ interval_s ax ix k n
   unfolding interval_s
   interval_by k is-t q =
       let w : ix / 2 + 0x20080000 + k * 0x40000 ≡ ix / 2 + 0x20000000 + 0x00080000 + k * 2 ^ 18 = omega arith in

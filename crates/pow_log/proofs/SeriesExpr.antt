@@ -13,7 +13,7 @@ use Rattle.pow_log.proofs.Laws.{series}
 
 -- `seriesS` up to t1, and then e: u, v, ss, s_h, t_l, s_l, s2, r, r, s2, t_h, t_l, u, v, p_h, p_l, z_h, z_l and t1 are named in turn
 abbrev series_e : Float → Float → Float → Expr → Expr
-series_e bp dp·h dp·l e =
+series_e bp dp_h dp_l e =
     share (minus (var 0) (con bp))
     (share (over (con 1·0) (plus (var 1) (con bp)))
     (share (times (var 1) (var 0))
@@ -31,23 +31,23 @@ series_e bp dp·h dp·l e =
     (share (clear 32 (plus (var 1) (var 0)))
     (share (minus (var 1) (minus (var 0) (var 2)))
     (share (times (con CP_H) (var 1))
-    (share (plus (plus (times (con CP_L) (var 2)) (times (var 1) (con CP))) (con dp·l))
-    (share (clear 32 (plus (plus (plus (var 1) (var 0)) (con dp·h)) (var 20))) e))))))))))))))))))
+    (share (plus (plus (times (con CP_L) (var 2)) (times (var 1) (con CP))) (con dp_l))
+    (share (clear 32 (plus (plus (plus (var 1) (var 0)) (con dp_h)) (var 20))) e))))))))))))))))))
 
 abbrev pub t1_e : Float → Float → Float → Expr
-t1_e bp dp·h dp·l = series_e bp dp·h dp·l (var 0)
+t1_e bp dp_h dp_l = series_e bp dp_h dp_l (var 0)
 
 abbrev pub t2_e : Float → Float → Float → Expr
-t2_e bp dp·h dp·l = series_e bp dp·h dp·l (minus (var 1) (minus (minus (minus (var 0) (var 21)) (con dp·h)) (var 2)))
+t2_e bp dp_h dp_l = series_e bp dp_h dp_l (minus (var 1) (minus (minus (minus (var 0) (var 21)) (con dp_h)) (var 2)))
 
-pub t1_is : (ax bp t·h dp·h dp·l t : Float) → eval binary64 (ax ∷ t·h ∷ t ∷ []) (t1_e bp dp·h dp·l) ≡ (series_s ax bp t·h dp·h dp·l t).t1
+pub t1_is : (ax bp t_h dp_h dp_l t : Float) → eval binary64 (ax ∷ t_h ∷ t ∷ []) (t1_e bp dp_h dp_l) ≡ (series_s ax bp t_h dp_h dp_l t).t1
 unfolding eval
-t1_is ax bp t·h dp·h dp·l t =
+t1_is ax bp t_h dp_h dp_l t =
     ap (λ (p : Parts). p.t1)
-    (series ax bp t·h dp·h dp·l t _ _ _ _ _ (sym (low_cleared _)) (horner_is binary64 L (var 0) _) (sym (low_cleared _)) (sym (low_cleared _)) (sym (low_cleared _)))
+    (series ax bp t_h dp_h dp_l t _ _ _ _ _ (sym (low_cleared _)) (horner_is binary64 L (var 0) _) (sym (low_cleared _)) (sym (low_cleared _)) (sym (low_cleared _)))
 
-pub t2_is : (ax bp t·h dp·h dp·l t : Float) → eval binary64 (ax ∷ t·h ∷ t ∷ []) (t2_e bp dp·h dp·l) ≡ (series_s ax bp t·h dp·h dp·l t).t2
+pub t2_is : (ax bp t_h dp_h dp_l t : Float) → eval binary64 (ax ∷ t_h ∷ t ∷ []) (t2_e bp dp_h dp_l) ≡ (series_s ax bp t_h dp_h dp_l t).t2
 unfolding eval
-t2_is ax bp t·h dp·h dp·l t =
+t2_is ax bp t_h dp_h dp_l t =
     ap (λ (p : Parts). p.t2)
-    (series ax bp t·h dp·h dp·l t _ _ _ _ _ (sym (low_cleared _)) (horner_is binary64 L (var 0) _) (sym (low_cleared _)) (sym (low_cleared _)) (sym (low_cleared _)))
+    (series ax bp t_h dp_h dp_l t _ _ _ _ _ (sym (low_cleared _)) (horner_is binary64 L (var 0) _) (sym (low_cleared _)) (sym (low_cleared _)) (sym (low_cleared _)))

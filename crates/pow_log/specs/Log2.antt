@@ -69,38 +69,38 @@ near_one_s ax =
     let t2 = v ⊖ (t1 ⊖ u) in
     record { t1 = t1; t2 = t2 }
 
--- From `compute ss` to t2. bp, dp·h and dp·l stand for BP[k], DP_H[k] and DP_L[k]; t·h is `ax+bp[k] High`, and t is n.
+-- From `compute ss` to t2. bp, dp_h and dp_l stand for BP[k], DP_H[k] and DP_L[k]; t_h is `ax+bp[k] High`, and t is n.
 unfoldable pub series_s : Float → Float → Float → Float → Float → Float → Parts
-series_s ax bp t·h dp·h dp·l t =
+series_s ax bp t_h dp_h dp_l t =
     let u = ax ⊖ bp in
     let v = 1·0 ⊘ (ax ⊕ bp) in
     let ss = u ⊗ v in
-    let s·h = with_low_word_s ss 0 in
-    let t·l = ax ⊖ (t·h ⊖ bp) in
-    let s·l = v ⊗ ((u ⊖ s·h ⊗ t·h) ⊖ s·h ⊗ t·l) in
+    let s_h = with_low_word_s ss 0 in
+    let t_l = ax ⊖ (t_h ⊖ bp) in
+    let s_l = v ⊗ ((u ⊖ s_h ⊗ t_h) ⊖ s_h ⊗ t_l) in
     let s2 = ss ⊗ ss in
     let r = s2 ⊗ s2 ⊗ horner_s binary64 L s2 in
-    let r = r ⊕ s·l ⊗ (s·h ⊕ ss) in
-    let s2 = s·h ⊗ s·h in
-    let t·h = with_low_word_s (3·0 ⊕ s2 ⊕ r) 0 in
-    let t·l = r ⊖ ((t·h ⊖ 3·0) ⊖ s2) in
-    let u = s·h ⊗ t·h in
-    let v = s·l ⊗ t·h ⊕ t·l ⊗ ss in
-    let p·h = with_low_word_s (u ⊕ v) 0 in
-    let p·l = v ⊖ (p·h ⊖ u) in
-    let z·h = CP_H ⊗ p·h in
-    let z·l = CP_L ⊗ p·h ⊕ p·l ⊗ CP ⊕ dp·l in
-    let t1 = with_low_word_s (((z·h ⊕ z·l) ⊕ dp·h) ⊕ t) 0 in
-    let t2 = z·l ⊖ (((t1 ⊖ t) ⊖ dp·h) ⊖ z·h) in
+    let r = r ⊕ s_l ⊗ (s_h ⊕ ss) in
+    let s2 = s_h ⊗ s_h in
+    let t_h = with_low_word_s (3·0 ⊕ s2 ⊕ r) 0 in
+    let t_l = r ⊖ ((t_h ⊖ 3·0) ⊖ s2) in
+    let u = s_h ⊗ t_h in
+    let v = s_l ⊗ t_h ⊕ t_l ⊗ ss in
+    let p_h = with_low_word_s (u ⊕ v) 0 in
+    let p_l = v ⊖ (p_h ⊖ u) in
+    let z_h = CP_H ⊗ p_h in
+    let z_l = CP_L ⊗ p_h ⊕ p_l ⊗ CP ⊕ dp_l in
+    let t1 = with_low_word_s (((z_h ⊕ z_l) ⊕ dp_h) ⊕ t) 0 in
+    let t2 = z_l ⊖ (((t1 ⊖ t) ⊖ dp_h) ⊖ z_h) in
     record { t1 = t1; t2 = t2 }
 
 -- ax is scaled into the interval that ix, from 0x3FE00000 to 0x3FFFFFFF, and k say, and counted with 2 ^ n
 unfoldable pub interval_s : Float → ℕ → ℕ → ℤ → Parts
 interval_s ax ix k n =
     let ax = with_high_word_s ax ix in
-    let t·h = with_high_word_s 0·0 (ix / 2 + 0x20000000 + 0x00080000 + k * 2 ^ 18) in
+    let t_h = with_high_word_s 0·0 (ix / 2 + 0x20000000 + 0x00080000 + k * 2 ^ 18) in
     let t = of_int binary64 n in
-    series_s ax (BP k) t·h (DP_H k) (DP_L k) t
+    series_s ax (BP k) t_h (DP_H k) (DP_L k) t
 
 -- determine interval
 unfoldable pub normal_s : Float → ℕ → ℤ → Parts
