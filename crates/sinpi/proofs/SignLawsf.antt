@@ -3,7 +3,7 @@
 -- and the f32 sinpi is sinpi over the kernels k_sinf and k_cosf. Assumes nothing.
 use mathlib.Core.Path.{◌≡◌, refl, sym, ap, ◌∙◌, subst}
 use Prim.Native.Nat.{ℕ, zero, suc, ◌+◌, ◌*◌, ◌/◌, ◌%◌, ◌^◌, ◌≤◌, ◌<◌}
-use native.Mathlib.Nat.{mul_comm, mul_assoc, mul_left_comm, mul_right_comm, mod-lt, mul-pos, eq_of_mul-eq-mul_right}
+use native.Mathlib.Nat.{mul_comm, mul_assoc, mul_right_comm, mod-lt, mul-pos, eq_of_mul-eq-mul_right}
 use native.Mathlib.Omega.{arith}
 use mathlib.Core.Bool.{false}
 use lib.IntN.{ℤ, pos, nat_abs}
@@ -19,7 +19,7 @@ use Rattle.rounding.proofs.Fraction.{mul_commutes}
 use Rattle.rounding.proofs.Relative.{power_below}
 use Rattle.rounding.proofs.Grid.{OnGrid, on_grid, spare}
 use Rattle.words.specs.F32 as F32
-use Rattle.words.specs.F64.{bits, ◌⊗◌}
+use Rattle.words.specs.F64.{◌⊗◌}
 use Rattle.whole.specs.Whole.{whole_s}
 use Rattle.words.proofs.PatternLaws.{same_value}
 use Rattle.trig.specs.KSinf.{k_sinf_s}
@@ -118,7 +118,7 @@ same_turn m e F h w =
     )
   where
     cross : (Y K g : ℕ) → 4 * Y * (K * g) ≡ 4 * (Y * g) * K
-    cross Y K g = simp (mul_assoc, mul_comm, mul_left_comm)
+    cross Y K g = simp (mul_assoc, mul_comm)
 
 -- ---- so it is sinpi over k_sinf and k_cosf
 turnf_of_is : (x : Float) → Sinpif.turn_s x ≡ turn_of binary32 x

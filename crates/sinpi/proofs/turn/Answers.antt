@@ -1,0 +1,7 @@
+-- `sinpi::turn` meets its contract. Assumes nothing.
+use Rattle.sinpi.specs.Sinpi.{turn_s}
+use Rattle.sinpi.proofs.turn.Goals as goal
+
+pub returns : goal.returns
+unfolding turn_s
+returns c = rw c.floor.ensures
