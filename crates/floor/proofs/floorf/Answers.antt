@@ -25,14 +25,13 @@ returns-else-size-2 c =
 -- ---- a fraction still present, or room for one
 pub truncating_f32_to_i64-cut-requires : goal.truncating_f32_to_i64-cut-requires
 truncating_f32_to_i64-cut-requires c =
-    let s = c in code.in_range binary32 _ _ s.well_formed.0.1 s.fabsf-size.ensures c.if-size-2.true
+    let k = code.in_range binary32 _ _ c.well_formed.0.1 c.fabsf-size.ensures c.if-size-2.true in
+    record { lower_bound = k.0; upper_bound = k.1 }
 
 pub int_to_float-cut : goal.int_to_float-cut
 int_to_float-cut c =
-    let t = c in
-    let s = t in
-    code.cut_casts binary32 _ _ s.well_formed.0.1 s.fabsf-size.ensures t.if-size-2.true _
-    (code.held _ _ t.truncating_f32_to_i64-cut.ensures)
+    code.cut_casts binary32 _ _ c.well_formed.0.1 c.fabsf-size.ensures c.if-size-2.true _
+    (code.held _ _ c.truncating_f32_to_i64-cut.ensures)
 
 pub returns-then-cut-x : goal.returns-then-cut-x
 returns-then-cut-x c =
