@@ -5,30 +5,26 @@ ghost use Rattle.distance.specs.Distance.{distance_s};
 
 use distance::{distance, distance_f32};
 
-#[unsafe(no_mangle)]
-pub extern "C" fn rvt_distance(a: u64, b: u64) -> u64
+pub fn rvt_distance(a: u64, b: u64) -> u64
     ensures { result ≡ (distance_s binary64 a b).distance }
 {
     distance(a, b).distance
 }
 
-#[unsafe(no_mangle)]
-pub extern "C" fn rvt_distance_code(a: u64, b: u64) -> u64
+pub fn rvt_distance_code(a: u64, b: u64) -> u64
     ensures { result ≡ (distance_s binary64 a b).code }
 {
     let apart = distance(a, b);
     apart.code as u64
 }
 
-#[unsafe(no_mangle)]
-pub extern "C" fn rvt_distancef(a: u32, b: u32) -> u64
+pub fn rvt_distancef(a: u32, b: u32) -> u64
     ensures { result ≡ (distance_s binary32 a b).distance }
 {
     distance_f32(a, b).distance
 }
 
-#[unsafe(no_mangle)]
-pub extern "C" fn rvt_distancef_code(a: u32, b: u32) -> u64
+pub fn rvt_distancef_code(a: u32, b: u32) -> u64
     ensures { result ≡ (distance_s binary32 a b).code }
 {
     let apart = distance_f32(a, b);

@@ -32,8 +32,7 @@ fn store(s: &mut [u8], f: Feed, taken: usize, written: usize)
 }
 
 // Takes what it can of the piece. A feed of another length is refused, and then nothing is touched.
-#[unsafe(no_mangle)]
-pub extern "C" fn rvt_feed_push(feed: &mut [u8], piece: &[u8], answers: &mut [u8]) -> u64
+pub fn rvt_feed_push(feed: &mut [u8], piece: &[u8], answers: &mut [u8]) -> u64
     ensures { Kept (push_bytes_s feed.old piece.now answers.old) result feed.new answers.new }
 {
     if feed.len() != LENGTH {
@@ -47,8 +46,7 @@ pub extern "C" fn rvt_feed_push(feed: &mut [u8], piece: &[u8], answers: &mut [u8
 }
 
 // Closes the feed. One of another length is refused, and then nothing is touched.
-#[unsafe(no_mangle)]
-pub extern "C" fn rvt_feed_close(feed: &mut [u8]) -> u64
+pub fn rvt_feed_close(feed: &mut [u8]) -> u64
     ensures { Told (close_bytes_s feed.old) result feed.new }
 {
     if feed.len() != LENGTH {

@@ -4,10 +4,10 @@
 // code. The header is include/raveltrellis.h.
 #![tactic(auto)]
 
-mod apart;
-mod feed_bytes;
-mod pair;
-mod report;
+pub mod apart;
+pub mod feed_bytes;
+pub mod pair;
+pub mod report;
 
 ghost use Rattle.std.specs.Prelude.{◌≡◌};
 ghost use Rattle.std.specs.Float.{binary32, binary64};
@@ -26,81 +26,70 @@ use stream::batch;
 // The code of a report, a feed or a pair that has another length.
 pub(crate) const REFUSED: u64 = 10;
 
-#[unsafe(no_mangle)]
-pub extern "C" fn rvt_tgamma(x: u64) -> u64
+pub fn rvt_tgamma(x: u64) -> u64
     ensures { result ≡ on_bits binary64 tgamma_s x }
 {
     by_bits::tgamma_bits(x)
 }
 
 // Log-gamma's value, and below it its sign, 1 or -1.
-#[unsafe(no_mangle)]
-pub extern "C" fn rvt_lgamma_r_value(x: u64) -> u64
+pub fn rvt_lgamma_r_value(x: u64) -> u64
     ensures { result ≡ value_on_bits binary64 lgamma_s x }
 {
     by_bits::lgamma_r_bits(x).value
 }
 
-#[unsafe(no_mangle)]
-pub extern "C" fn rvt_lgamma_r_sign(x: u64) -> i32
+pub fn rvt_lgamma_r_sign(x: u64) -> i32
     ensures { result ≡ sign_on_bits binary64 lgamma_s x }
 {
     by_bits::lgamma_r_bits(x).sign
 }
 
-#[unsafe(no_mangle)]
-pub extern "C" fn rvt_erf(x: u64) -> u64
+pub fn rvt_erf(x: u64) -> u64
     ensures { result ≡ on_bits binary64 erf_s x }
 {
     by_bits::erf_bits(x)
 }
 
-#[unsafe(no_mangle)]
-pub extern "C" fn rvt_erfc(x: u64) -> u64
+pub fn rvt_erfc(x: u64) -> u64
     ensures { result ≡ on_bits binary64 erfc_s x }
 {
     by_bits::erfc_bits(x)
 }
 
 // The f32 functions, on the 32 bits of an f32.
-#[unsafe(no_mangle)]
-pub extern "C" fn rvt_lgammaf_r_value(x: u32) -> u32
+pub fn rvt_lgammaf_r_value(x: u32) -> u32
     ensures { result ≡ value_on_bits binary32 lgammaf_s x }
 {
     by_bits::lgammaf_r_bits(x).value
 }
 
-#[unsafe(no_mangle)]
-pub extern "C" fn rvt_lgammaf_r_sign(x: u32) -> i32
+pub fn rvt_lgammaf_r_sign(x: u32) -> i32
     ensures { result ≡ sign_on_bits binary32 lgammaf_s x }
 {
     by_bits::lgammaf_r_bits(x).sign
 }
 
-#[unsafe(no_mangle)]
-pub extern "C" fn rvt_tgammaf(x: u32) -> u32
+pub fn rvt_tgammaf(x: u32) -> u32
     ensures { result ≡ on_bits binary32 tgammaf_s x }
 {
     by_bits::tgammaf_bits(x)
 }
 
-#[unsafe(no_mangle)]
-pub extern "C" fn rvt_erff(x: u32) -> u32
+pub fn rvt_erff(x: u32) -> u32
     ensures { result ≡ on_bits binary32 erff_s x }
 {
     by_bits::erff_bits(x)
 }
 
-#[unsafe(no_mangle)]
-pub extern "C" fn rvt_erfcf(x: u32) -> u32
+pub fn rvt_erfcf(x: u32) -> u32
     ensures { result ≡ on_bits binary32 erfcf_s x }
 {
     by_bits::erfcf_bits(x)
 }
 
 // The stop code.
-#[unsafe(no_mangle)]
-pub extern "C" fn rvt_batch_code(requests: &[u8], answers: &mut [u8]) -> u64
+pub fn rvt_batch_code(requests: &[u8], answers: &mut [u8]) -> u64
     ensures { Reported (batch_s requests.now answers.old) (λ o. o.code) result answers.old answers.new }
 {
     let t = batch(requests, answers);
@@ -108,8 +97,7 @@ pub extern "C" fn rvt_batch_code(requests: &[u8], answers: &mut [u8]) -> u64
 }
 
 // How many records were answered.
-#[unsafe(no_mangle)]
-pub extern "C" fn rvt_batch_records(requests: &[u8], answers: &mut [u8]) -> u64
+pub fn rvt_batch_records(requests: &[u8], answers: &mut [u8]) -> u64
     ensures { Reported (batch_s requests.now answers.old) (λ o. o.tally.records) result answers.old answers.new }
 {
     let t = batch(requests, answers).tally;
@@ -117,8 +105,7 @@ pub extern "C" fn rvt_batch_records(requests: &[u8], answers: &mut [u8]) -> u64
 }
 
 // How many bytes of the requests were read.
-#[unsafe(no_mangle)]
-pub extern "C" fn rvt_batch_read(requests: &[u8], answers: &mut [u8]) -> u64
+pub fn rvt_batch_read(requests: &[u8], answers: &mut [u8]) -> u64
     ensures { Reported (batch_s requests.now answers.old) (λ o. o.tally.read) result answers.old answers.new }
 {
     let t = batch(requests, answers).tally;
@@ -126,8 +113,7 @@ pub extern "C" fn rvt_batch_read(requests: &[u8], answers: &mut [u8]) -> u64
 }
 
 // How many bytes of the answers were written.
-#[unsafe(no_mangle)]
-pub extern "C" fn rvt_batch_written(requests: &[u8], answers: &mut [u8]) -> u64
+pub fn rvt_batch_written(requests: &[u8], answers: &mut [u8]) -> u64
     ensures { Reported (batch_s requests.now answers.old) (λ o. o.tally.written) result answers.old answers.new }
 {
     let t = batch(requests, answers).tally;

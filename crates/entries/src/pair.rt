@@ -10,8 +10,7 @@ use records::DONE;
 const LENGTH: usize = 16;
 
 // erf's bits, and then erfc's, eight bytes each. A pair of another length is refused, and then it is not touched.
-#[unsafe(no_mangle)]
-pub extern "C" fn rvt_erf_erfc(x: u64, pair: &mut [u8]) -> u64
+pub fn rvt_erf_erfc(x: u64, pair: &mut [u8]) -> u64
     ensures { Given (pair_s x pair.old) result pair.new }
 {
     if pair.len() != LENGTH {

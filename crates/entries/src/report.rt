@@ -21,8 +21,7 @@ fn tell(report: &mut [u8], records: u64, read: u64, written: u64)
 
 // The whole batch. The report has the records answered, the bytes read and the bytes written, eight bytes each. One of another length is
 // refused, and then nothing is touched.
-#[unsafe(no_mangle)]
-pub extern "C" fn rvt_batch(requests: &[u8], answers: &mut [u8], report: &mut [u8]) -> u64
+pub fn rvt_batch(requests: &[u8], answers: &mut [u8], report: &mut [u8]) -> u64
     ensures { Made (call_s requests.now answers.old report.old) result answers.new report.new }
 {
     if report.len() != LENGTH {

@@ -2,10 +2,8 @@
 use mathlib.Core.Path.{◌≡◌, refl}
 use mathlib.Core.Bool.{Bool, true, false, ◌&&◌, cond}
 use mathlib.Core.List.{List, [], ◌∷◌}
-use Prim.Native.Nat.{ℕ, ◌+◌, ◌*◌, ◌≤◌}
-use native.Mathlib.Omega.{arith}
+use Prim.Native.Nat.{ℕ, ◌*◌, ◌≤◌}
 use lib.Dec.{T, leb, eqb, leb→le}
-use lib.ListN.{length}
 use Rattle.kinds.specs.Shape.{Shape, shape, shape_in, request_length, answer_length}
 use Rattle.kinds.specs.Kinds.{shapes, shape_of, longest_answer}
 use Rattle.kinds.proofs.Every.{and_left, and_right}

@@ -1,7 +1,6 @@
 -- `scalbn::power` meets its contract. Assumes nothing.
 use mathlib.Core.Path.{◌∙◌}
 use lib.Ieee.{binary64}
-use borrow.Author.Rules.{rules}
 use Rattle.scalbn.proofs.ScalbnCode as code
 use Rattle.scalbn.proofs.power.Goals as goal
 

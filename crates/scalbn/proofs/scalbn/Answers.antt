@@ -1,6 +1,5 @@
 use mathlib.Core.Path.{◌∙◌}
 use lib.Ieee.{binary64}
-use borrow.Author.Rules.{rules}
 use Rattle.scalbn.proofs.ScalbnCode as code
 use Rattle.scalbn.proofs.scalbn.Goals as goal
 

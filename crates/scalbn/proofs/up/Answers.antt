@@ -1,5 +1,4 @@
 use lib.Ieee.{binary64}
-use borrow.Author.Rules.{rules}
 use Rattle.scalbn.proofs.ScalbnCode as code
 use Rattle.scalbn.proofs.up.Goals as goal
 

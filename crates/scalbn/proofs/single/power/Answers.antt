@@ -1,7 +1,6 @@
 -- `scalbn::single::power` meets its contract. Assumes nothing.
 use mathlib.Core.Path.{◌∙◌}
 use lib.Ieee.{binary32}
-use borrow.Author.Rules.{rules}
 use Rattle.scalbn.proofs.ScalbnCode as code
 use Rattle.scalbn.proofs.single.power.Goals as goal
 

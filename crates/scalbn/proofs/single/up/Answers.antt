@@ -1,5 +1,4 @@
 use lib.Ieee.{binary32}
-use borrow.Author.Rules.{rules}
 use Rattle.scalbn.proofs.ScalbnCode as code
 use Rattle.scalbn.proofs.single.up.Goals as goal
 

@@ -1,6 +1,5 @@
 -- `words::bits::bits_of_f32` meets its contract. Assumes nothing.
 use lib.Ieee.{binary32}
-use borrow.Author.Rules.{rules}
 use Rattle.words.proofs.PatternLaws.{not_nan, nan_pattern}
 use Rattle.words.proofs.bits.bits_of_f32.Goals as goal
 

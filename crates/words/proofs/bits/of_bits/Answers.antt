@@ -1,6 +1,5 @@
 -- `words::bits::of_bits` meets its contract. Assumes nothing.
 use lib.Ieee.{binary64, div, of_bits}
-use borrow.Author.Rules.{rules}
 use Rattle.words.proofs.PatternLaws.{pattern_nan, pattern_not_nan}
 use Rattle.words.proofs.bits.of_bits.Goals as goal
 

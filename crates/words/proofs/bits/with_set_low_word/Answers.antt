@@ -1,4 +1,3 @@
-use borrow.Author.Rules.{rules}
 use Rattle.words.proofs.bits.with_set_low_word.Goals as goal
 
 pub returns : goal.returns
