@@ -1,4 +1,4 @@
--- A whole number x from 2 ^ -54 to 23 has a whole part from 1 to 23, so x - 1 is a place in FACT (`fact-index`). Assumes nothing.
+-- A whole number x from 2 ^ -54 to 23 has a whole part from 1 to 23, so x - 1 is a place in FACT (`fact_index`). Assumes nothing.
 use mathlib.Core.Path.{◌≡◌, refl, sym}
 use Prim.Native.Nat.{ℕ, zero, suc, ◌+◌, ◌*◌, ◌/◌, ◌%◌, ◌<◌, ◌≤◌}
 use native.Mathlib.Nat.{div-add-mod', suc-mul, zero-mul}

@@ -1,7 +1,6 @@
 -- `pow::finite` meets its contract. Assumes nothing.
 use mathlib.Core.Path.{sym, ◌∙◌}
 use Rattle.pow.specs.Pow.{finite_s}
-use borrow.Author.Rules.{rules}
 use Rattle.pow.proofs.finite.Goals as goal
 
 pub returns-then-is_special : goal.returns-then-is_special

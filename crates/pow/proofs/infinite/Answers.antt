@@ -2,7 +2,6 @@
 use mathlib.Core.Path.{sym, ◌∙◌}
 use borrow.Author.Tests.{le-leb, lt-leb}
 use Rattle.pow.specs.Pow.{infinite_s}
-use borrow.Author.Rules.{rules}
 use Rattle.pow.proofs.infinite.Goals as goal
 
 pub returns-then-is_pattern : goal.returns-then-is_pattern

@@ -1,6 +1,5 @@
 -- `pow::log_of` meets its contract. Assumes nothing.
 use borrow.Author.Tests.{lt-ltb, le-ltb}
-use borrow.Author.Rules.{rules}
 use Rattle.pow.proofs.log_of.Goals as goal
 
 pub returns-then-hy-gt1105199104 : goal.returns-then-hy-gt1105199104

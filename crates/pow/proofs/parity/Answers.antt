@@ -3,7 +3,6 @@ use mathlib.Core.Path.{sym, ◌∙◌}
 use borrow.Author.Tests.{eq-eqb, ne_eqb}
 use Rattle.pow.specs.Pow.{parity_s}
 use Rattle.pow_exp.proofs.Half.{cut_back}
-use borrow.Author.Rules.{rules}
 use Rattle.pow.proofs.parity.Goals as goal
 
 pub returns-then-j-d : goal.returns-then-j-d

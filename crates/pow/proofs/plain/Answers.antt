@@ -1,12 +1,10 @@
 -- `pow::plain` meets its contract. Assumes nothing.
 use Prim.Native.Nat.{ℕ, ◌%◌, ◌^◌}
 use mathlib.Core.Path.{◌≡◌, refl}
-use mathlib.Core.Logic.{inl, inr}
 use mathlib.Core.Bool.{Bool, true, false, ◌&&◌, true≢false}
 use lib.Dec.{leb, eqb}
 use lib.Ieee.{Float}
 use borrow.Author.Tests.{le-leb, lt-leb, ne_eqb}
-use borrow.Author.Rules.{rules}
 use Rattle.words.specs.Pick.{pick}
 use Rattle.words.specs.F64.{◌⊖◌, ◌⊘◌, 1·0, -1·0}
 use Rattle.words.specs.Fabs.{fabs_s}
@@ -38,7 +36,7 @@ returns c =
     let h : (leb (2 ^ 31) a.hx && eqb a.yisint 0) ≡ false =
     elim c.else-hx-ge2147483648.branch [
       | else-hx-ge2147483648-via-then-hx-ge2147483648+else-yisint-eq0 w ↦
-        simp (le-leb (2 ^ 31) a.hx w.if-hx-ge2147483648.true, ne_eqb a.yisint 0 w.if-yisint-eq0.false)
+          simp (le-leb (2 ^ 31) a.hx w.if-hx-ge2147483648.true, ne_eqb a.yisint 0 w.if-yisint-eq0.false)
       | else-hx-ge2147483648-via-else-hx-ge2147483648 w ↦ simp (lt-leb (2 ^ 31) a.hx w.if-hx-ge2147483648.false)
     ] in
     rw (c.signed.ensures, c.fabs.ensures, c.sign_of.ensures) (by_sign a.x a.y a.hx a.hy a.yisint h)

@@ -1,7 +1,6 @@
 -- `pow::pow` meets its contract. Assumes nothing.
 use mathlib.Core.Path.{sym, ◌∙◌}
 use Rattle.pow.specs.Pow.{pow_s}
-use borrow.Author.Rules.{rules}
 use Rattle.pow.proofs.Courses.{usual}
 use Rattle.pow.proofs.pow.Goals as goal
 

@@ -1,7 +1,6 @@
 -- `pow::pow_at` meets its contract. Assumes nothing.
 use mathlib.Core.Path.{sym, ◌∙◌}
 use Rattle.pow.specs.Pow.{pow_at_s}
-use borrow.Author.Rules.{rules}
 use Rattle.pow.proofs.pow_at.Goals as goal
 
 pub returns-then-is_pattern : goal.returns-then-is_pattern

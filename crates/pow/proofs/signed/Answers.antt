@@ -3,7 +3,6 @@ use Prim.Native.Nat.{◌%◌}
 use mathlib.Core.Path.{sym, ◌∙◌}
 use borrow.Author.Tests.{lt-ltb}
 use Rattle.pow.specs.Pow.{signed_s}
-use borrow.Author.Rules.{rules}
 use Rattle.pow.proofs.FarLaws.{huge, near}
 use Rattle.pow.proofs.signed.Goals as goal
 

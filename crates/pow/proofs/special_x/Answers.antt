@@ -1,7 +1,6 @@
 -- `pow::special_x` meets its contract. Assumes nothing.
 use borrow.Author.Tests.{le-leb, lt-leb}
 use Rattle.pow.specs.Pow.{special_x_s}
-use borrow.Author.Rules.{rules}
 use Rattle.pow.proofs.special_x.Goals as goal
 
 pub returns-then-hy-ge2147483648 : goal.returns-then-hy-ge2147483648

@@ -3,7 +3,6 @@ use Prim.Native.Nat.{◌%◌}
 use native.Mathlib.Omega.{arith}
 use borrow.Author.Tests.{le-leb, lt-leb, eq-eqb, ne_eqb}
 use Rattle.pow.specs.Pow.{special_y_s}
-use borrow.Author.Rules.{rules}
 use Rattle.pow.proofs.special_y.Goals as goal
 
 pub returns-then-ly-ne0 : goal.returns-then-ly-ne0

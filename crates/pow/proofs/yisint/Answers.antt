@@ -1,7 +1,6 @@
 -- `pow::yisint` meets its contract. Assumes nothing.
 use borrow.Author.Tests.{lt-ltb, le-ltb, le-leb, lt-leb, eq-eqb, ne_eqb}
 use Rattle.pow.specs.Pow.{yisint_s}
-use borrow.Author.Rules.{rules}
 use Rattle.pow.proofs.yisint.Goals as goal
 
 pub returns-then-hx-lt2147483648 : goal.returns-then-hx-lt2147483648

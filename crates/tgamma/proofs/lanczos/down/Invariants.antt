@@ -1,0 +1,15 @@
+-- `tgamma::lanczos::down` meets its contract. Assumes nothing.
+use Prim.Native.Nat.{ℕ, ◌≤◌, ◌-◌}
+use mathlib.Core.Path.{◌≡◌, ap, ◌∙◌}
+use native.Mathlib.Omega.{arith}
+use borrow.Author.Rules.{rules}
+use lib.ListN.{length, drop}
+use Rattle.tgamma.specs.Lanczos.{down_s}
+use Rattle.tgamma.proofs.Turns as turns
+use Rattle.tgamma.proofs.lanczos.down.Given as goal
+
+abbrev pub invariant-loop-i : goal.invariant-loop-i
+invariant-loop-i l = (l.i ≤ length l.cs) × (l.a ≡ down_s (drop l.i l.cs) l.x)
+
+abbrev pub decreases-loop-i : goal.decreases-loop-i
+decreases-loop-i l = l.i

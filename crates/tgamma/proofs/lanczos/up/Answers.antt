@@ -1,0 +1,21 @@
+-- `tgamma::lanczos::up` meets its contract. Assumes nothing.
+use Prim.Native.Nat.{◌≤◌, ◌-◌}
+use mathlib.Core.Path.{◌≡◌, refl, ◌∙◌}
+use native.Mathlib.Omega.{arith}
+use borrow.Author.Rules.{rules}
+use lib.ListN.{length, drop}
+use Rattle.words.specs.F64.{bits}
+use Rattle.tgamma.specs.Lanczos.{up_s}
+use Rattle.tgamma.proofs.Turns as turns
+use Rattle.tgamma.proofs.lanczos.up.Goals as goal
+
+pub loop-i-init : goal.loop-i-init
+loop-i-init c = (omega arith, refl)
+
+pub loop-i-preserved : goal.loop-i-preserved
+loop-i-preserved c =
+    (omega arith, turns.up_more c.args.cs.now c.args.x c.loop-i.a c.loop-i.i (omega arith) ∙ c.loop-i.invariant.1)
+
+pub returns : goal.returns
+returns c =
+    turns.up_none c.args.cs.now c.args.x c.loop-i.a c.loop-i.i (omega arith) ∙ c.loop-i.invariant.1
