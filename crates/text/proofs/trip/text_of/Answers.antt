@@ -13,48 +13,28 @@ pub line_step-t-requires : goal.line_step-t-requires
 line_step-t-requires c = let i = c.loop-one.invariant in (i.inside, i.within)
 
 pub returns-then-one-eq0 : goal.returns-then-one-eq0
-returns-then-one-eq0 c =
-    let a = c.args in
-    let l = c.loop-one in
-    let s = c.line_step-t in
-    going_done (to_line names) (line_lawful names) a.requests.now a.text.now l.text s.new.text (record { records = l.records; read = l.read; written = l.written }) s.result l.invariant s.ensures c.if-one-eq0.true
+returns-then-one-eq0 c = going_done _ (line_lawful names) _ _ _ _ _ _ c.loop-one.invariant c.line_step-t.ensures c.if-one-eq0.true
 
 pub overflow_add-records : goal.overflow_add-records
 overflow_add-records c =
-    let a = c.args in
-    let l = c.loop-one in
-    let s = c.line_step-t in
-    let g = going_on (to_line names) (line_lawful names) a.requests.now a.text.now l.text s.new.text (record { records = l.records; read = l.read; written = l.written }) s.result l.invariant s.ensures c.if-one-eq0.false in
+    let g = going_on _ (line_lawful names) _ _ _ _ _ _ c.loop-one.invariant c.line_step-t.ensures c.if-one-eq0.false in
     record { fits = omega (arith, g.count, g.inside) }
 
 pub overflow_add-read : goal.overflow_add-read
 overflow_add-read c =
-    let a = c.args in
-    let l = c.loop-one in
-    let s = c.line_step-t in
-    let g = going_on (to_line names) (line_lawful names) a.requests.now a.text.now l.text s.new.text (record { records = l.records; read = l.read; written = l.written }) s.result l.invariant s.ensures c.if-one-eq0.false in
+    let g = going_on _ (line_lawful names) _ _ _ _ _ _ c.loop-one.invariant c.line_step-t.ensures c.if-one-eq0.false in
     record { fits = omega (arith, g.inside) }
 
 pub overflow_add-written : goal.overflow_add-written
 overflow_add-written c =
-    let a = c.args in
-    let l = c.loop-one in
-    let s = c.line_step-t in
-    let g = going_on (to_line names) (line_lawful names) a.requests.now a.text.now l.text s.new.text (record { records = l.records; read = l.read; written = l.written }) s.result l.invariant s.ensures c.if-one-eq0.false in
+    let g = going_on _ (line_lawful names) _ _ _ _ _ _ c.loop-one.invariant c.line_step-t.ensures c.if-one-eq0.false in
     record { fits = omega (arith, g.within, g.same) }
 
 pub loop-one-smaller : goal.loop-one-smaller
 loop-one-smaller c =
-    let a = c.args in
-    let l = c.loop-one in
-    let s = c.line_step-t in
-    let g = going_on (to_line names) (line_lawful names) a.requests.now a.text.now l.text s.new.text (record { records = l.records; read = l.read; written = l.written }) s.result l.invariant s.ensures c.if-one-eq0.false in
-    let f = going_further (to_line names) (line_lawful names) a.requests.now a.text.now l.text s.new.text (record { records = l.records; read = l.read; written = l.written }) s.result l.invariant s.ensures c.if-one-eq0.false in
+    let g = going_on _ (line_lawful names) _ _ _ _ _ _ c.loop-one.invariant c.line_step-t.ensures c.if-one-eq0.false in
+    let f = going_further _ (line_lawful names) _ _ _ _ _ _ c.loop-one.invariant c.line_step-t.ensures c.if-one-eq0.false in
     omega (arith, f, g.inside)
 
 pub loop-one-preserved : goal.loop-one-preserved
-loop-one-preserved c =
-    let a = c.args in
-    let l = c.loop-one in
-    let s = c.line_step-t in
-    going_on (to_line names) (line_lawful names) a.requests.now a.text.now l.text s.new.text (record { records = l.records; read = l.read; written = l.written }) s.result l.invariant s.ensures c.if-one-eq0.false
+loop-one-preserved c = going_on _ (line_lawful names) _ _ _ _ _ _ c.loop-one.invariant c.line_step-t.ensures c.if-one-eq0.false
