@@ -1,4 +1,4 @@
--- A line and a record at a place: which case of `toRequest` and of `toLine` it is, in the code's own numbers. Assumes nothing.
+-- A line and a record at a place: which case of `to_request` and of `to_line` it is, in the code's own numbers. Assumes nothing.
 use mathlib.Core.Path.{◌≡◌, refl, sym, ap, ◌∙◌}
 use mathlib.Core.Bool.{Bool, true, false}
 use mathlib.Core.List.{List, [], ◌∷◌}

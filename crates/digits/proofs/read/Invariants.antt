@@ -1,4 +1,4 @@
--- `digits::read` meets its contract: what was read so far is the word of the bytes passed, from the top down. Assumes nothing.
+-- What the loop of `digits::read` keeps: what was read so far is the word of the bytes passed, from the top down.
 use mathlib.Core.Path.{◌≡◌}
 use Prim.Native.Nat.{◌+◌, ◌-◌, ◌^◌, ◌≤◌, ◌<◌}
 use lib.ListN.{drop}

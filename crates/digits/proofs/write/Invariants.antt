@@ -1,4 +1,4 @@
--- `digits::write` meets its contract: what is left to write from here gives what is to be written in all. Assumes nothing.
+-- What the loop of `digits::write` keeps: what is left to write from here gives what is to be written in all.
 use mathlib.Core.Path.{◌≡◌}
 use Prim.Native.Nat.{◌+◌}
 use lib.ListN.{length}
