@@ -28,11 +28,11 @@ module _ (f : Format) where
   -- n > exp_max: x is scaled by 2 ^ exp_max once or twice before
   unfoldable pub up_s : Float → ℤ → Float
   up_s x n =
-      let f·exp·max = power2 exp_max in
-      let x = x ⊗ f·exp·max in
+      let f_exp_max = power2 exp_max in
+      let x = x ⊗ f_exp_max in
       let n = n -ℤ exp_max in
       if n >ℤ? exp_max then
-      (let x = x ⊗ f·exp·max in
+      (let x = x ⊗ f_exp_max in
       let n = n -ℤ exp_max in
       let n = if n >ℤ? exp_max then exp_max else n in
       let scale = power2 n in
@@ -44,9 +44,9 @@ module _ (f : Format) where
   -- n < exp_min: x is scaled by 2 ^ (exp_min + sig_total_bits) once or twice before; n is then still below -sig_total_bits
   unfoldable pub down_s : Float → ℤ → Float
   down_s x n =
-      let f·exp·min = power2 exp_min in
-      let f·pow·subnorm = power2 sig_total_bits in
-      let mul = f·exp·min ⊗ f·pow·subnorm in
+      let f_exp_min = power2 exp_min in
+      let f_pow_subnorm = power2 sig_total_bits in
+      let mul = f_exp_min ⊗ f_pow_subnorm in
       let add = neg_ℤ exp_min -ℤ sig_total_bits in
       let x = x ⊗ mul in
       let n = n +ℤ add in

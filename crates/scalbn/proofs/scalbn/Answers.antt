@@ -1,3 +1,4 @@
+-- `scalbn::scalbn` meets its contract. Assumes nothing.
 use mathlib.Core.Path.{◌∙◌}
 use lib.Ieee.{binary64}
 use Rattle.scalbn.proofs.ScalbnCode as code

@@ -1,3 +1,4 @@
+-- `scalbn::up` meets its contract. Assumes nothing.
 use lib.Ieee.{binary64}
 use Rattle.scalbn.proofs.ScalbnCode as code
 use Rattle.scalbn.proofs.up.Goals as goal

@@ -1,3 +1,4 @@
+-- `scalbn::single::scalbnf` meets its contract. Assumes nothing.
 use mathlib.Core.Path.{◌∙◌}
 use lib.Ieee.{binary32}
 use Rattle.scalbn.proofs.ScalbnCode as code

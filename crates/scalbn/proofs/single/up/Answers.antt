@@ -1,3 +1,4 @@
+-- `scalbn::single::up` meets its contract. Assumes nothing.
 use lib.Ieee.{binary32}
 use Rattle.scalbn.proofs.ScalbnCode as code
 use Rattle.scalbn.proofs.single.up.Goals as goal

@@ -1,3 +1,4 @@
+-- `words::bits::with_set_high_word` meets its contract. Assumes nothing.
 use Rattle.words.proofs.bits.with_set_high_word.Goals as goal
 
 pub returns : goal.returns
