@@ -1,6 +1,5 @@
 -- What a program decides after a turn, and at its end.
-use Rattle.std.specs.Prelude.{ℕ, Bool, true, false, List, [], ◌∷◌, ℤ, pos, negsuc}
-use Rattle.words.specs.Pick.{if◌then◌else◌}
+use Rattle.std.specs.Prelude.{ℕ, Bool, true, false, List, [], ◌∷◌, ℤ, pos, negsuc, if◌then◌else◌}
 use Rattle.words.specs.Tests.{◌=?◌}
 use Rattle.decide.specs.declared.Next.{Next}
 use Rattle.decide.specs.declared.Next.TheVariants.{Go, Close, Break}

@@ -1,8 +1,7 @@
 -- How far two floats of one width lie apart, by their bit patterns, over the format.
-use Rattle.std.specs.Prelude.{◌||◌, ℕ, ◌%◌, ℤ, pos, neg_ℤ, nat_abs, ◌-ℤ◌}
+use Rattle.std.specs.Prelude.{◌||◌, ℕ, ◌%◌, ℤ, pos, neg_ℤ, nat_abs, ◌-ℤ◌, if◌then◌else◌}
 use Rattle.std.specs.Float.{Format}
 use Rattle.std.specs.Float.Ieee.{top, nan_bits}
-use Rattle.words.specs.Pick.{if◌then◌else◌}
 use Rattle.words.specs.Tests.{◌≥?◌}
 use Rattle.distance.specs.declared.Apart.{Apart}
 

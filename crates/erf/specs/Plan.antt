@@ -2,10 +2,9 @@
 -- Regions of erf in the order tested: not finite; below 0.84375 (below 2 ^ -28 apart); below 6 by erfc2; from 6 on.
 -- Regions of erfc: not finite; below 0.84375 (below 2 ^ -56 apart, then at 1/4, where the sign counts); below 28 by erfc2; from 28 on.
 -- erf_s and erfc_s are the whole; the others serve them, and are what the private functions of their names promise.
-use Rattle.std.specs.Prelude.{ℕ, ◌*◌, ◌/◌, ◌^◌, ◌||◌, List, pos, Float}
+use Rattle.std.specs.Prelude.{ℕ, ◌*◌, ◌/◌, ◌^◌, ◌||◌, List, pos, Float, if◌then◌else◌}
 use Rattle.std.specs.Float.{Format}
 use Rattle.std.specs.Float.Ieee.{neg, of_int, of_bits, to_bits}
-use Rattle.words.specs.Pick.{if◌then◌else◌}
 use Rattle.words.specs.Tests.{◌<?◌, ◌≥?◌, ◌≠?◌}
 use Rattle.words.specs.Operators.{operators}
 use Rattle.words.specs.Bits.{sign_s}

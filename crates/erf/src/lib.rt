@@ -9,10 +9,9 @@
 // A list of coefficients is PP0, PP1, .. of the Rust; QQ, QA, SA and SB begin with their 1.0.
 #![tactic(auto)]
 
-ghost use Rattle.std.specs.Prelude.{◌≡◌};
+ghost use Rattle.std.specs.Prelude.{◌≡◌, if◌then◌else◌};
 ghost use Rattle.std.specs.Float.{binary64};
 ghost use Rattle.std.specs.Float.Ieee.{neg};
-ghost use Rattle.words.specs.Pick.{if◌then◌else◌};
 ghost use Rattle.words.specs.Tests.{◌≠?◌};
 ghost use Rattle.words.specs.Bits.{sign_s, size_word_s};
 ghost use Rattle.erf.specs.Plan.{erfc1_s, ratio_s, short_s, erfc2_s, small_s};

@@ -3,9 +3,8 @@
 // A list of coefficients is PP0, PP1, .. of the Rust; QQ, QA, SA and SB begin with their 1.0.
 #![tactic(auto)]
 
-ghost use Rattle.std.specs.Prelude.{◌≡◌};
+ghost use Rattle.std.specs.Prelude.{◌≡◌, if◌then◌else◌};
 ghost use Rattle.std.specs.Float.Ieee.{neg};
-ghost use Rattle.words.specs.Pick.{if◌then◌else◌};
 ghost use Rattle.words.specs.Tests.{◌≠?◌};
 ghost use Rattle.erf.specs.Plan.{erfc1_s, ratio_s, short_s, erfc2_s, small_s};
 ghost use Rattle.erff.specs.Erff.{erf32, erff_s, erfcf_s};

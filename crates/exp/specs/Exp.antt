@@ -1,8 +1,7 @@
 -- exp, as the Rust's exp.rs has it, in rounded operations of f64. hx is the high word of the size, sign the sign bit.
 -- exp_s is what `exp` promises; special_s serves it, and is what the private `special` promises.
-use Rattle.std.specs.Prelude.{ℕ, [], ◌∷◌, Float}
+use Rattle.std.specs.Prelude.{ℕ, [], ◌∷◌, Float, if◌then◌else◌}
 use Rattle.std.specs.Float.{binary64}
-use Rattle.words.specs.Pick.{if◌then◌else◌}
 use Rattle.words.specs.Tests.{◌≥?◌, ◌<·◌, ◌>·◌, ◌≠·◌}
 use Rattle.words.specs.F64.{◌⊗◌, bits, 0·0}
 use Rattle.words.specs.Bits.{size_word_s, sign_s}

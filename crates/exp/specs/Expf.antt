@@ -1,9 +1,8 @@
 -- expf, as the Rust's expf.rs has it, in rounded operations of f32. hx is the pattern of the size, sign the sign bit.
 -- Its special cases go by hx, where exp.rs compares the numbers. expf_s is what `expf` promises; special_s serves it, and is what the private
 -- `special` of module `single` promises.
-use Rattle.std.specs.Prelude.{ℕ, not, ◌&&◌, [], ◌∷◌, Float}
+use Rattle.std.specs.Prelude.{ℕ, not, ◌&&◌, [], ◌∷◌, Float, if◌then◌else◌}
 use Rattle.std.specs.Float.{binary32}
-use Rattle.words.specs.Pick.{if◌then◌else◌}
 use Rattle.words.specs.Tests.{◌>?◌, ◌≥?◌, ◌≠?◌}
 use Rattle.words.specs.F32.{◌⊗◌, bits, 0·0}
 use Rattle.words.specs.Bits.{size_bits_s, sign_s}

@@ -1,10 +1,9 @@
 -- What exp.rs and expf.rs have in common, over their constants and cuts: everything from the argument reduction on. hx is the word of the size
 -- (in f64 the high word, in f32 all of it), sign the sign bit. plain_s is that rest of both; it and the three before it are what the private
 -- functions `plain`, `reduced`, `multiple` and `primary` promise.
-use Rattle.std.specs.Prelude.{ℕ, List, ℤ, pos, negsuc, unsigned_abs, Float}
+use Rattle.std.specs.Prelude.{ℕ, List, ℤ, pos, negsuc, unsigned_abs, Float, if◌then◌else◌}
 use Rattle.std.specs.Float.{Format}
 use Rattle.std.specs.Float.Ieee.{of_int}
-use Rattle.words.specs.Pick.{if◌then◌else◌}
 use Rattle.words.specs.Tests.{◌>?◌, ◌≥?◌, ◌=?◌}
 use Rattle.words.specs.Operators.{operators}
 use Rattle.whole.specs.Whole.{whole_s}

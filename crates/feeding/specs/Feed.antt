@@ -1,6 +1,5 @@
 -- What a feed does, over any table of kinds: one call, and the call that closes it.
-use Rattle.std.specs.Prelude.{ℕ, ◌+◌, ◌-◌, Bool, true, List, [], ◌∷◌, ◌++◌, length}
-use Rattle.words.specs.Pick.{if◌then◌else◌}
+use Rattle.std.specs.Prelude.{ℕ, ◌+◌, ◌-◌, Bool, true, List, [], ◌∷◌, ◌++◌, length, if◌then◌else◌}
 use Rattle.words.specs.Tests.{◌<?◌, ◌=?◌}
 use Rattle.records.specs.Row.{Row, row_in}
 use Rattle.records.specs.Codes.{DONE, UNKNOWN, CUT, FULL}

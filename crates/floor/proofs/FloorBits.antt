@@ -1,4 +1,5 @@
 -- The Rust's way to floor, by masks on the bit pattern, comes to `floorS` for every pattern of the format (`by_bits`). Assumes nothing.
+use Rattle.std.specs.Prelude.{if◌then◌else◌}
 use Rattle.std.proofs.Common.{◌≡◌, ℕ, ◌+◌, ◌-◌, ◌*◌, ◌/◌, ◌%◌, ◌^◌, ◌<◌, ◌≤◌, Bool, true, false, not, T, eqb, sym, ap, ◌∙◌, subst, inl, inr, mod-eq_of_lt, eq-zero-or-pos, pos_of_ne-zero, div-le_self, arith, eqb→eq, ltb→lt, leb→le, nltb→le, pow_pos, eq-eqb, le-leb}
 use lib.Bits.{bit_and, and_mask, and_high}
 use lib.Dec.{nleb→lt}
@@ -6,7 +7,6 @@ use lib.Pow as Pow
 use lib.Ieee.{Format, binary32, binary64, prec, emax, hid, top, of_bits}
 use lib.Ieee.Bits.{of_bits-fits}
 use borrow.Author.Tests.{lt-leb}
-use Rattle.words.specs.Pick.{if◌then◌else◌}
 use Rattle.words.specs.Tests.{◌<?◌, ◌≥?◌, ◌=?◌, ◌≠?◌}
 use Rattle.words.proofs.PatternLaws.{field_of}
 use Rattle.floor.specs.Floor.{floor_s}

@@ -1,10 +1,9 @@
 -- floor as the Rust has it, generic/floor.rs: on the bit pattern ix, over the format, in its order. No contract cites it: floor is defined by the
 -- value (Floor), the code goes by the value too, and proofs/FloorBits says that this comes to the same. `bit_and` is the Rust's `&`.
 -- The status is left out; a NaN keeps its pattern, and is the one NaN in the law.
-use Rattle.std.specs.Prelude.{ℕ, suc, ◌+◌, ◌-◌, ◌*◌, ◌/◌, ◌%◌, ◌^◌, bit_and}
+use Rattle.std.specs.Prelude.{ℕ, suc, ◌+◌, ◌-◌, ◌*◌, ◌/◌, ◌%◌, ◌^◌, bit_and, if◌then◌else◌}
 use Rattle.std.specs.Float.{Format}
 use Rattle.std.specs.Float.Ieee.{prec, emax, hid, ones, top}
-use Rattle.words.specs.Pick.{if◌then◌else◌}
 use Rattle.words.specs.Tests.{◌<?◌, ◌≥?◌, ◌=?◌, ◌≠?◌}
 
 -- !m: 2 * top is 2 to the number of bits

@@ -1,4 +1,5 @@
 -- Numbers in hex, there and back, over the number of digits. Assumes nothing.
+use Rattle.std.specs.Prelude.{if◌then◌else◌}
 use mathlib.Core.Path.{◌≡◌, refl, sym, ap, ◌∙◌}
 use mathlib.Core.Bool.{Bool, true, false}
 use mathlib.Core.List.{List, [], ◌∷◌}
@@ -8,7 +9,6 @@ use native.Mathlib.Omega.{arith}
 use lib.Arith.{digits_div, mod-mul}
 use lib.ListN.{length}
 use borrow.Author.Tests.{ltb-true, ltb-false, leb-true, lt-ltb, le-ltb, le-leb, lt-leb}
-use Rattle.words.specs.Pick.{if◌then◌else◌}
 use Rattle.words.specs.Tests.{◌<?◌, ◌≤?◌}
 use Rattle.hexadecimal.specs.declared.Number.TheVariants.{None, Is}
 use Rattle.hexadecimal.specs.Hex.{char_of, digit_of, hex, all_hex, value, number_s}

@@ -2,10 +2,9 @@
 -- Regions in the order tested: not finite; tiny; negative, by the reflection with sin(pi x); exactly 1 and 2; below 2 by three formulas;
 -- below 8; below 2 ^ 58; above. x is the size from there on where the argument is negative.
 -- lgamma_s is the whole; the others serve it, and are what the private functions of their names promise (segment_s that of `segment_at`).
-use Rattle.std.specs.Prelude.{ℕ, Bool, List, ℤ, pos, negsuc, Float}
+use Rattle.std.specs.Prelude.{ℕ, Bool, List, ℤ, pos, negsuc, Float, if◌then◌else◌}
 use Rattle.std.specs.Float.{Format}
 use Rattle.std.specs.Float.Ieee.{neg, of_int}
-use Rattle.words.specs.Pick.{if◌then◌else◌}
 use Rattle.words.specs.Tests.{◌<?◌, ◌≤?◌, ◌≥?◌, ◌=?◌, ◌≠?◌, ◌≥ℤ?◌, ◌>·◌, ◌=·◌}
 use Rattle.words.specs.Operators.{operators}
 use Rattle.words.specs.Bits.{sign_s}

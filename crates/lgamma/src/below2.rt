@@ -1,9 +1,8 @@
 // lgamma_r of x < 2.0. Up to 0.9 lgamma(x) = lgamma(x + 1) - log(x), and x + 1 stands for x. Then by the Rust's i, with y:
 // 0, near 2: y = 2 - x, a polynomial in y (A0 to A11) less y/2; 1, near the least value, which lies at TC: y = x - TC, TF + y^2 times a polynomial
 // (T0 to T14), TF with its tail TT; 2, near 1: y = x - 1, -y/2 + y U(y)/V(y). The cuts are 1.7316 and 1.2316, and each less 1.
-ghost use Rattle.std.specs.Prelude.{◌≡◌};
+ghost use Rattle.std.specs.Prelude.{◌≡◌, if◌then◌else◌};
 ghost use Rattle.std.specs.Float.Ieee.{neg};
-ghost use Rattle.words.specs.Pick.{if◌then◌else◌};
 ghost use Rattle.words.specs.Tests.{◌≤?◌};
 ghost use Rattle.lgamma.specs.Plan.{segment_s, zero_s, one_s, two_s, added_s, below2_s};
 ghost use Rattle.lgamma.specs.Lgamma64.{lgamma64};

@@ -1,10 +1,9 @@
 // lgamma_r of x >= 2.0. Below 8: y is the fraction of x; lgamma(2 + y) = y/2 + y S(y)/R(y), with an error that msun gives as 2^-61.71, and
 // lgamma(1 + s) = log(s) + lgamma(s) adds the log of (y + 2) (y + 3) .. up to x - 1. Below 2^58 Stirling's formula,
 // (x - 0.5) (log(x) - 1) + W0 + W1/x + W2/x^3 + .. + W6/x^11, with an error that msun gives as 2^-58.74; from there on x (log(x) - 1).
-ghost use Rattle.std.specs.Prelude.{◌≡◌};
+ghost use Rattle.std.specs.Prelude.{◌≡◌, if◌then◌else◌};
 ghost use Rattle.std.specs.Float.{binary64};
 ghost use Rattle.std.specs.Float.Ieee.{mul};
-ghost use Rattle.words.specs.Pick.{if◌then◌else◌};
 ghost use Rattle.lgamma.specs.Plan.{product_s, below8_s, stirling_s};
 ghost use Rattle.lgamma.specs.Lgamma64.{lgamma64};
 

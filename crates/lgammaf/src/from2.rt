@@ -1,8 +1,7 @@
 // lgammaf_r of x >= 2.0, by lgamma_r's formulas: below 8 by the product of the numbers below x, then by Stirling's.
-ghost use Rattle.std.specs.Prelude.{◌≡◌};
+ghost use Rattle.std.specs.Prelude.{◌≡◌, if◌then◌else◌};
 ghost use Rattle.std.specs.Float.{binary32};
 ghost use Rattle.std.specs.Float.Ieee.{mul};
-ghost use Rattle.words.specs.Pick.{if◌then◌else◌};
 ghost use Rattle.lgamma.specs.Plan.{product_s, below8_s, stirling_s};
 ghost use Rattle.lgammaf.specs.Lgammaf.{lgamma32};
 

@@ -1,9 +1,8 @@
 -- log, as the Rust's log.rs and logf.rs have it: one text over their constants and cuts. ui is the bit pattern, hx its upper 32 bits, which in f32
 -- are all of it (the Rust's ix there). log_s is the whole; reduced_s and near_s serve it, and are what the private `reduced` and `near` promise.
-use Rattle.std.specs.Prelude.{ℕ, ◌+◌, ◌-◌, ◌*◌, ◌/◌, ◌%◌, ◌^◌, ◌&&◌, ◌||◌, List, ℤ, pos, neg_ℤ, ◌+ℤ◌, ◌-ℤ◌, Float}
+use Rattle.std.specs.Prelude.{ℕ, ◌+◌, ◌-◌, ◌*◌, ◌/◌, ◌%◌, ◌^◌, ◌&&◌, ◌||◌, List, ℤ, pos, neg_ℤ, ◌+ℤ◌, ◌-ℤ◌, Float, if◌then◌else◌}
 use Rattle.std.specs.Float.{Format}
 use Rattle.std.specs.Float.Ieee.{top, of_int, to_bits, of_bits}
-use Rattle.words.specs.Pick.{if◌then◌else◌}
 use Rattle.words.specs.Tests.{◌<?◌, ◌≥?◌, ◌=?◌}
 use Rattle.words.specs.Operators.{operators}
 use Rattle.poly.specs.Horner.{horner_s}

@@ -4,9 +4,8 @@
 -- plain_s, signed_s, huge_s; then near_one_s and log2_s of pow_log, and product_s of pow_exp.
 -- hx, lx and hy, ly are the words of x and y, natural numbers below 2 ^ 32; ix and iy are hx and hy without the sign.
 -- `hx < 0` of the Rust's i32 is hx ≥ 2 ^ 31; `a | c == 0` is a = 0 and c = 0, and `(a - b) | c == 0` is a = b and c = 0.
-use Rattle.std.specs.Prelude.{ℕ, ◌-◌, ◌*◌, ◌/◌, ◌%◌, ◌^◌, Bool, not, ◌&&◌, ◌||◌, Float}
+use Rattle.std.specs.Prelude.{ℕ, ◌-◌, ◌*◌, ◌/◌, ◌%◌, ◌^◌, Bool, not, ◌&&◌, ◌||◌, Float, if◌then◌else◌}
 use Rattle.std.specs.Float.Ieee.{neg}
-use Rattle.words.specs.Pick.{if◌then◌else◌}
 use Rattle.words.specs.Tests.{◌<?◌, ◌>?◌, ◌≤?◌, ◌≥?◌, ◌=?◌, ◌≠?◌}
 use Rattle.words.specs.F64.{◌⊕◌, ◌⊖◌, ◌⊗◌, ◌⊘◌, 0·0, 1·0, -1·0}
 use Rattle.words.specs.Bits.{high_word_s, low_word_s}

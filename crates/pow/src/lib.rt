@@ -4,9 +4,8 @@
 // all but an x close to 1 overflows or vanishes.
 #![tactic(auto)]
 
-ghost use Rattle.std.specs.Prelude.{◌≡◌, true, not, ◌&&◌, ◌||◌, ◌%◌, ◌^◌, ◌<◌, Float};
+ghost use Rattle.std.specs.Prelude.{◌≡◌, true, not, ◌&&◌, ◌||◌, ◌%◌, ◌^◌, ◌<◌, Float, if◌then◌else◌};
 ghost use Rattle.words.specs.F64.{1·0, -1·0};
-ghost use Rattle.words.specs.Pick.{if◌then◌else◌};
 ghost use Rattle.words.specs.Tests.{◌<?◌, ◌>?◌, ◌≤?◌, ◌=?◌, ◌≠?◌};
 ghost use Rattle.pow_log.specs.Log2.{near_one_s, log2_s};
 ghost use Rattle.pow.specs.Pow.{negative, nan_words, parity_s, yisint_s, huge_s, signed_s, plain_s, turned_s, special_x_s, finite_s, infinite_s, special_y_s, pow_at_s, pow_s};

@@ -2,9 +2,8 @@
 -- `product` promises; the others serve it, and are what the private functions of their names promise. To read them in the Rust's order, from
 -- product_s at the end up: product_s, bounded_s, large_s, small_s, exp2_s, fraction_s, scaled_s.
 -- j and i are the words of z, natural numbers below 2 ^ 32; an i32 is negative where its word is 2 ^ 31 or more.
-use Rattle.std.specs.Prelude.{ℕ, suc, ◌+◌, ◌-◌, ◌*◌, ◌/◌, ◌%◌, ◌^◌, not, ◌&&◌, ◌||◌, List, [], ◌∷◌, ℤ, pos, negsuc, neg_ℤ, Float}
+use Rattle.std.specs.Prelude.{ℕ, suc, ◌+◌, ◌-◌, ◌*◌, ◌/◌, ◌%◌, ◌^◌, not, ◌&&◌, ◌||◌, List, [], ◌∷◌, ℤ, pos, negsuc, neg_ℤ, Float, if◌then◌else◌}
 use Rattle.std.specs.Float.{binary64}
-use Rattle.words.specs.Pick.{if◌then◌else◌}
 use Rattle.words.specs.Tests.{◌<?◌, ◌>?◌, ◌≥?◌, ◌=?◌, ◌>·◌, ◌≤·◌}
 use Rattle.words.specs.F64.{◌⊕◌, ◌⊖◌, ◌⊗◌, ◌⊘◌, bits, 0·0, 1·0, 2·0}
 use Rattle.words.specs.Bits.{high_word_s, low_word_s, with_high_word_s, with_low_word_s}

@@ -3,10 +3,9 @@
 -- does). To read them in the Rust's order, from log2_s at the end up: log2_s, normal_s, interval_s, series_s.
 -- ax is the size of x, and ix the high word of ax. An i32 that is never negative, as ix, j and k, is a natural number here: a mask or a shift of
 -- it is `%` or `/` by a power of 2, and `|` with a bit that is not set is `+`. n, which can be negative, is an integer.
-use Rattle.std.specs.Prelude.{ℕ, ◌+◌, ◌-◌, ◌*◌, ◌/◌, ◌%◌, ◌^◌, List, [], ◌∷◌, ℤ, pos, neg_ℤ, ◌+ℤ◌, ◌-ℤ◌, Float}
+use Rattle.std.specs.Prelude.{ℕ, ◌+◌, ◌-◌, ◌*◌, ◌/◌, ◌%◌, ◌^◌, List, [], ◌∷◌, ℤ, pos, neg_ℤ, ◌+ℤ◌, ◌-ℤ◌, Float, if◌then◌else◌}
 use Rattle.std.specs.Float.{binary64}
 use Rattle.std.specs.Float.Ieee.{of_int}
-use Rattle.words.specs.Pick.{if◌then◌else◌}
 use Rattle.words.specs.Tests.{◌<?◌, ◌≤?◌, ◌=?◌}
 use Rattle.words.specs.F64.{◌⊕◌, ◌⊖◌, ◌⊗◌, ◌⊘◌, bits, 0·0, 0·25, 0·5, 1·0, 1·5, 3·0}
 use Rattle.words.specs.Bits.{high_word_s, with_high_word_s, with_low_word_s}

@@ -5,8 +5,7 @@
 // are exact. For a huge y and |1 - x| up to 2^-20 near_one has log(1 + t) = t - t^2/2 + t^3/3 - t^4/4.
 #![tactic(auto)]
 
-ghost use Rattle.std.specs.Prelude.{◌≡◌, ℕ, ◌≤◌, pos, ◌-ℤ◌, Float};
-ghost use Rattle.words.specs.Pick.{if◌then◌else◌};
+ghost use Rattle.std.specs.Prelude.{◌≡◌, ℕ, ◌≤◌, pos, ◌-ℤ◌, Float, if◌then◌else◌};
 ghost use Rattle.words.specs.Tests.{◌=?◌};
 ghost use Rattle.pow_log.specs.Log2.{near_one_s, series_s, interval_s, normal_s, log2_s};
 

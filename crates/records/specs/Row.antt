@@ -1,6 +1,5 @@
 -- A table of kinds: any list of rows.
-use Rattle.std.specs.Prelude.{ℕ, List, [], ◌∷◌}
-use Rattle.words.specs.Pick.{if◌then◌else◌}
+use Rattle.std.specs.Prelude.{ℕ, List, [], ◌∷◌, if◌then◌else◌}
 use Rattle.words.specs.Tests.{◌=?◌}
 use Rattle.records.specs.declared.Reply.{Reply}
 

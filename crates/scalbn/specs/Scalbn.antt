@@ -1,9 +1,8 @@
 -- scalbn: x times 2 ^ n, as the Rust's generic/scalbn.rs works it out, in at most three rounded products and in either format f.
 -- scalbn_s is what `scalbn` and `scalbnf` promise; power2, up_s and down_s serve it, and are what the private `power`, `up` and `down` promise.
-use Rattle.std.specs.Prelude.{◌-◌, ◌*◌, ℤ, pos, neg_ℤ, nat_abs, ◌+ℤ◌, ◌-ℤ◌, Float}
+use Rattle.std.specs.Prelude.{◌-◌, ◌*◌, ℤ, pos, neg_ℤ, nat_abs, ◌+ℤ◌, ◌-ℤ◌, Float, if◌then◌else◌}
 use Rattle.std.specs.Float.{Format}
 use Rattle.std.specs.Float.Ieee.{prec, emax, hid, of_bits}
-use Rattle.words.specs.Pick.{if◌then◌else◌}
 use Rattle.words.specs.Tests.{◌<ℤ?◌, ◌>ℤ?◌}
 use Rattle.words.specs.Operators.{operators}
 

@@ -1,10 +1,9 @@
 -- sin(pi x) for x > 0, as the Rust has it: sinpi in tgamma.rs and sin_pi in lgamma_r.rs. The two texts differ only in the order of the
 -- factors of 4.0 * x, which is no matter for the bits. sinpi_s is what `sinpi` promises; turn_s and quarter_s serve it, and turn_s is what the private
 -- `turn` promises.
-use Rattle.std.specs.Prelude.{ℕ, ◌+◌, ◌/◌, pos, nat_abs, Float}
+use Rattle.std.specs.Prelude.{ℕ, ◌+◌, ◌/◌, pos, nat_abs, Float, if◌then◌else◌}
 use Rattle.std.specs.Float.{binary64}
 use Rattle.std.specs.Float.Ieee.{neg, of_int}
-use Rattle.words.specs.Pick.{if◌then◌else◌}
 use Rattle.words.specs.Tests.{◌=?◌}
 use Rattle.words.specs.F64.{◌⊖◌, ◌⊗◌, bits, 0·0, 0·5, 2·0, 4·0}
 use Rattle.floor.specs.Floor.{floor_s}

@@ -1,10 +1,9 @@
 -- sin(pi x) for x > 0 in f32, as the Rust has it: sin_pi in lgammaf_r.rs. x mod 2 and n are worked out in f32, y and the kernels in f64
 -- (an f32 is an f64 of the same value, so `x as f64` is x). sinpif_s is what `sinpif` promises; turn_s and quarter_s serve it, and turn_s is what
 -- the private `turn` of module `single` promises.
-use Rattle.std.specs.Prelude.{ℕ, ◌+◌, ◌/◌, pos, nat_abs, Float}
+use Rattle.std.specs.Prelude.{ℕ, ◌+◌, ◌/◌, pos, nat_abs, Float, if◌then◌else◌}
 use Rattle.std.specs.Float.{binary32, binary64}
 use Rattle.std.specs.Float.Ieee.{neg, of_int}
-use Rattle.words.specs.Pick.{if◌then◌else◌}
 use Rattle.words.specs.Tests.{◌=?◌}
 use Rattle.words.specs.Operators.{operators}
 use Rattle.words.specs.F32 as F32

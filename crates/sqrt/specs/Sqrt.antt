@@ -1,9 +1,8 @@
 -- sqrt: the square root, rounded once. Said of the value, and not in the Rust's order: its sqrt.rs is one machine instruction on x86-64 and on
 -- aarch64, and this is what it gives. sqrt_s is what `sqrt` promises.
-use Rattle.std.specs.Prelude.{ℕ, zero, suc, ◌+◌, ◌*◌, ◌/◌, ◌^◌, true, false, Float}
+use Rattle.std.specs.Prelude.{ℕ, zero, suc, ◌+◌, ◌*◌, ◌/◌, ◌^◌, true, false, Float, if◌then◌else◌}
 use Rattle.std.specs.Float.{nan, inf, fin, binary64}
 use Rattle.std.specs.Float.Ieee.{up, down, size, round}
-use Rattle.words.specs.Pick.{if◌then◌else◌}
 use Rattle.words.specs.Tests.{◌≤?◌, ◌=?◌}
 
 -- The root of an n below 4 ^ k without its fraction: twice that of n / 4, or 1 more.

@@ -1,4 +1,5 @@
 -- A line and a record at a place: which case of `to_request` and of `to_line` it is, in the code's own numbers. Assumes nothing.
+use Rattle.std.specs.Prelude.{if◌then◌else◌}
 use mathlib.Core.Path.{◌≡◌, refl, sym, ap, ◌∙◌}
 use mathlib.Core.Bool.{Bool, true, false}
 use mathlib.Core.List.{List, [], ◌∷◌}
@@ -8,7 +9,6 @@ use native.Mathlib.Omega.{arith}
 use borrow.Author.Tests.{eq-eqb, ne_eqb, lt-ltb, le-ltb}
 use lib.ListN.{length, take, drop, get_or, length-drop, drop_of_length-le}
 use lib.Seq.{drop-cons}
-use Rattle.words.specs.Pick.{if◌then◌else◌}
 use Rattle.words.specs.Tests.{◌=?◌}
 use Rattle.digits.specs.Digits.{word}
 use Rattle.digits.proofs.DigitLaws.{length_digits}

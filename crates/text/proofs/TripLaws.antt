@@ -8,6 +8,7 @@
 --     back_stops      Behind the requests of good lines: a kind without a name, a cut body, a line without room, each with its code.
 --     one_text        So no two texts of good lines have the same requests, but for a last newline.
 -- Assumes nothing.
+use Rattle.std.specs.Prelude.{if◌then◌else◌}
 use mathlib.Core.Path.{◌≡◌, refl, sym, ap, ◌∙◌, subst}
 use mathlib.Core.Bool.{Bool, true, false}
 use mathlib.Core.List.{List, [], ◌∷◌, ◌++◌, append_assoc, append-nil}
@@ -18,7 +19,6 @@ use borrow.Author.Tests.{ltb-false}
 use lib.Dec.{ltb}
 use lib.ListN.{length, drop, length-append, length-drop}
 use lib.Seq.{drop-drop, drop_at}
-use Rattle.words.specs.Pick.{if◌then◌else◌}
 use Rattle.words.specs.Tests.{◌=?◌}
 use Rattle.digits.specs.Digits.{digits, word}
 use Rattle.digits.proofs.DigitLaws.{length_digits, word_digits}

@@ -1,7 +1,6 @@
 -- A line, without its newline, over any table of names: what it asks for, and the line that asks for it.
-use Rattle.std.specs.Prelude.{ℕ, ◌*◌, Bool, true, false, List, [], ◌∷◌, ◌++◌, length, drop}
+use Rattle.std.specs.Prelude.{ℕ, ◌*◌, Bool, true, false, List, [], ◌∷◌, ◌++◌, length, drop, if◌then◌else◌}
 use Prim.Native.Char.{code}
-use Rattle.words.specs.Pick.{if◌then◌else◌}
 use Rattle.words.specs.Tests.{◌=?◌}
 use Rattle.hexadecimal.specs.Hex.{hex, number_s}
 use Rattle.hexadecimal.specs.declared.Number.{Number}

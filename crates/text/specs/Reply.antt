@@ -1,6 +1,5 @@
 -- The reply to a line and to a text, over any table of kinds: what a reply shows is the row's own answer.
-use Rattle.std.specs.Prelude.{ℕ, ◌*◌, List, [], ◌∷◌, ◌++◌, map}
-use Rattle.words.specs.Pick.{if◌then◌else◌}
+use Rattle.std.specs.Prelude.{ℕ, ◌*◌, List, [], ◌∷◌, ◌++◌, map, if◌then◌else◌}
 use Rattle.words.specs.Tests.{◌=?◌}
 use Rattle.hexadecimal.specs.Hex.{hex}
 use Rattle.records.specs.Row.{Row, row_in}

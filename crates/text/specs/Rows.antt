@@ -1,6 +1,5 @@
 -- The table of names as the code has it: ten bytes, of which the first are a name and a space, and the others spaces too.
-use Rattle.std.specs.Prelude.{ℕ, zero, suc, ◌+◌, ◌-◌, List, [], ◌∷◌, ◌++◌, length, replicate}
-use Rattle.words.specs.Pick.{if◌then◌else◌}
+use Rattle.std.specs.Prelude.{ℕ, zero, suc, ◌+◌, ◌-◌, List, [], ◌∷◌, ◌++◌, length, replicate, if◌then◌else◌}
 use Rattle.words.specs.Tests.{◌=?◌}
 use Rattle.text.specs.Names as names
 use Rattle.text.specs.Line.{SPACE}

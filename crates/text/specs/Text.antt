@@ -1,7 +1,6 @@
 -- A text: lines, each with a newline behind it. A last line without its newline counts if it has a byte.
-use Rattle.std.specs.Prelude.{ℕ, List, [], ◌∷◌, ◌++◌}
+use Rattle.std.specs.Prelude.{ℕ, List, [], ◌∷◌, ◌++◌, if◌then◌else◌}
 use Prim.Native.Char.{code}
-use Rattle.words.specs.Pick.{if◌then◌else◌}
 use Rattle.words.specs.Tests.{◌=?◌}
 
 abbrev pub NEWLINE : ℕ

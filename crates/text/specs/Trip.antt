@@ -1,6 +1,5 @@
 -- Text to the request stream and back, over any table of names, as runs: a step takes the first line, or the first record.
-use Rattle.std.specs.Prelude.{ℕ, min, List, [], ◌∷◌, length}
-use Rattle.words.specs.Pick.{if◌then◌else◌}
+use Rattle.std.specs.Prelude.{ℕ, min, List, [], ◌∷◌, length, if◌then◌else◌}
 use Rattle.words.specs.Tests.{◌<?◌, ◌=?◌}
 use Rattle.digits.specs.Digits.{digits, word}
 use Rattle.kinds.specs.Kinds.{shape_of}

@@ -1,7 +1,6 @@
 -- s of tgamma.rs: the Lanczos quotient S(x), for positive x. s_s is what the function `s`, of the crate alone, promises; down_s and up_s serve it,
 -- and are what the private `down` and `up` promise of one of the Rust's two sums, num or den.
-use Rattle.std.specs.Prelude.{List, [], ◌∷◌, Float}
-use Rattle.words.specs.Pick.{if◌then◌else◌}
+use Rattle.std.specs.Prelude.{List, [], ◌∷◌, Float, if◌then◌else◌}
 use Rattle.words.specs.Tests.{◌<·◌}
 use Rattle.words.specs.F64.{◌⊕◌, ◌⊗◌, ◌⊘◌, bits, 0·0, 8·0}
 

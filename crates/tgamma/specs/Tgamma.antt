@@ -2,10 +2,9 @@
 -- Regions in the order tested: not finite; below 2 ^ -54; whole numbers; from 184 on; the Lanczos formula, with the reflection below 0.
 -- tgamma_s is what `tgamma` promises; the others serve it, and are what the private functions of their names promise (dy_s that of `correction`,
 -- lanczos_s that of `by_lanczos`). The Rust's bool `sign` is the sign bit, 0 or 1, here.
-use Rattle.std.specs.Prelude.{ℕ, ◌-◌, List, [], ◌∷◌, nat_abs, get_or, Float}
+use Rattle.std.specs.Prelude.{ℕ, ◌-◌, List, [], ◌∷◌, nat_abs, get_or, Float, if◌then◌else◌}
 use Rattle.std.specs.Float.{nan, binary64}
 use Rattle.std.specs.Float.Ieee.{neg}
-use Rattle.words.specs.Pick.{if◌then◌else◌}
 use Rattle.words.specs.Tests.{◌<?◌, ◌≥?◌, ◌=?◌, ◌<·◌, ◌>·◌, ◌≤·◌, ◌=·◌}
 use Rattle.words.specs.F64.{◌⊕◌, ◌⊖◌, ◌⊗◌, ◌⊘◌, bits, 0·0, -0·0, 0·5, 1·0}
 use Rattle.words.specs.Bits.{size_word_s, sign_s}

@@ -8,11 +8,10 @@
 
 pub mod lanczos;
 
-ghost use Rattle.std.specs.Prelude.{◌≡◌, true, ◌≤◌, get_or};
+ghost use Rattle.std.specs.Prelude.{◌≡◌, true, ◌≤◌, get_or, if◌then◌else◌};
 ghost use Rattle.std.specs.Float.Ieee as Ieee;
 ghost use Rattle.std.specs.Float.{nan, binary64};
 ghost use Rattle.std.specs.Float.Ieee.{neg};
-ghost use Rattle.words.specs.Pick.{if◌then◌else◌};
 ghost use Rattle.words.specs.Tests.{◌=?◌, ◌<·◌};
 ghost use Rattle.words.specs.Bits.{size_word_s, sign_s};
 ghost use Rattle.words.specs.F64.{◌⊗◌, ◌⊘◌, 0·0};

@@ -1,6 +1,5 @@
 -- k_sin, the kernel of the sine, as the Rust's k_sin.rs has it, in rounded operations of f64.
-use Rattle.std.specs.Prelude.{ℤ, nat_abs, Float}
-use Rattle.words.specs.Pick.{if◌then◌else◌}
+use Rattle.std.specs.Prelude.{ℤ, nat_abs, Float, if◌then◌else◌}
 use Rattle.words.specs.Tests.{◌=?◌}
 use Rattle.words.specs.F64.{◌⊕◌, ◌⊖◌, ◌⊗◌, bits, 0·5}
 

@@ -1,9 +1,9 @@
 -- What the loop of `hexadecimal::get` keeps: the digits read, and that what the rest says behind them is what the text says.
+use Rattle.std.specs.Prelude.{if◌then◌else◌}
 use mathlib.Core.Path.{◌≡◌}
 use mathlib.Core.List.{List}
 use Prim.Native.Nat.{ℕ, ◌+◌, ◌-◌, ◌*◌, ◌^◌, ◌<◌}
 use lib.ListN.{length, drop}
-use Rattle.words.specs.Pick.{if◌then◌else◌}
 use Rattle.hexadecimal.specs.declared.Number.{Number}
 use Rattle.hexadecimal.specs.declared.Number.TheVariants.{None, Is}
 use Rattle.hexadecimal.specs.Hex.{all_hex, value, number_s}
