@@ -3,7 +3,7 @@
 -- size is the quotient. `lgamma-sign` says it of every argument at once.
 -- Assumes nothing.
 use mathlib.Core.Path.{◌≡◌, refl}
-use Prim.Native.Nat.{ℕ, ◌*◌, ◌/◌, ◌%◌, ◌<◌}
+use Prim.Native.Nat.{ℕ, ◌*◌, ◌/◌, ◌%◌, ◌<◌, ◌≤◌}
 use native.Mathlib.Omega.{arith}
 use mathlib.Core.Bool.{true, false}
 use lib.Dec.{T, lit<, lit≤}
@@ -20,7 +20,7 @@ pub regular : Regular lgamma64
 unfolding to_bits of_bits div
 regular = record {
   ix_nan = lit≤ tt;
-  ix_inf = λ s. elim s [ true ↦ lit≤ tt | false ↦ lit≤ tt ];
+  ix_inf = λ s. elim s as (λ k. lgamma64.not_finite ≤ lgamma64.ix (inf k)) [ true ↦ lit≤ tt | false ↦ lit≤ tt ];
   ix_finite = word_under;
   n = 69;
   upto_tiny = λ m e F h. upto_word true m e F 0x3B90000000000000 (lit< tt) h;

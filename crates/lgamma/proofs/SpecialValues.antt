@@ -6,7 +6,7 @@ use Prim.Native.Nat.{◌<◌, ◌≤◌}
 use mathlib.Core.Bool.{Bool, true, false}
 use lib.IntN.{pos, negsuc}
 use lib.Dec.{T, lit<, lit≤}
-use lib.Ieee.{Float, nan, inf, fin, binary64, mul, neg, fits, to_bits, of_bits}
+use lib.Ieee.{Float, nan, inf, fin, binary64, unlike, mul, neg, fits, to_bits, of_bits}
 use borrow.Author.Tests.{le-leb, lt-leb, lt-ltb, le-ltb, eq-eqb}
 use Rattle.rounding.proofs.Relative.{zero+}
 use Rattle.words.specs.Bits.{sign_s}
@@ -75,7 +75,7 @@ module _ (p : Plan) (r : Regular p) where
     unfolding Plan.lgamma_s mul
     annex_f = record {
       at_nan = rw (le-leb p.not_finite (p.ix nan) r.ix_nan) refl;
-      at_infinity = λ s. rw (le-leb p.not_finite (p.ix (inf s)) (r.ix_inf s)) (elim s [ true ↦ refl | false ↦ refl ]);
+      at_infinity = λ s. rw (le-leb p.not_finite (p.ix (inf s)) (r.ix_inf s)) (elim s as (λ k. plus (inf (unlike k k)) ≡ plus (inf false)) [ true ↦ refl | false ↦ refl ]);
       at_one = one_or_two p.1·0 k.one;
       at_two = one_or_two p.2·0 k.two;
       at_zero = at_plus_zero;
@@ -89,6 +89,6 @@ lgamma_special = annex_f lgamma64 regular (record {
   one = record { known = refl; plus_sign = refl; not_tiny = lit≤ tt; finite_ix = lit< tt };
   two = record { known = refl; plus_sign = refl; not_tiny = lit≤ tt; finite_ix = lit< tt };
   zero_fits = λ s. tt;
-  zero_ix = λ s. elim s [ true ↦ lit< tt | false ↦ lit< tt ];
+  zero_ix = λ s. elim s as (λ k. lgamma64.ix (fin k 0 (pos 0)) < lgamma64.tiny) [ true ↦ lit< tt | false ↦ lit< tt ];
   log_of_zero = log_zero binary64 false;
 })

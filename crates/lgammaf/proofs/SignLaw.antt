@@ -1,6 +1,6 @@
 -- The plan of lgammaf_r is regular, so that what lgamma/proofs/PlanSigns says of the sign holds in f32: it depends on nothing but the value
 -- (`lgammaf-sign`), and every negative whole number is a pole (`lgammaf-pole`). Assumes nothing.
-use Rattle.std.proofs.Common.{◌≡◌, ℕ, ◌*◌, ◌%◌, ◌<◌, true, false, T, ℤ, pos, refl, le_of_lt, lit<, lit≤}
+use Rattle.std.proofs.Common.{◌≡◌, ℕ, ◌*◌, ◌%◌, ◌<◌, ◌≤◌, true, false, T, ℤ, pos, refl, le_of_lt, lit<, lit≤}
 use lib.Ieee.{Float, inf, fin, binary32, up, down, div, fits, to_bits, of_bits}
 use Rattle.words.proofs.CutLaws.{size_under, from_bits, upto_bits}
 use Rattle.sinpi.proofs.SignLawsf.{sinpif_even, sinpif_odd, sinpif_whole}
@@ -13,7 +13,7 @@ pub regular : Regular lgamma32
 unfolding to_bits of_bits div
 regular = record {
   ix_nan = lit≤ tt;
-  ix_inf = λ s. elim s [ true ↦ lit≤ tt | false ↦ lit≤ tt ];
+  ix_inf = λ s. elim s as (λ k. lgamma32.not_finite ≤ lgamma32.ix (inf k)) [ true ↦ lit≤ tt | false ↦ lit≤ tt ];
   ix_finite = size_under binary32;
   n = 20;
   upto_tiny = λ m e F h. upto_bits binary32 true m e F 0x35000000 (lit< tt) (le_of_lt h);

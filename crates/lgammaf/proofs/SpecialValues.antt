@@ -1,7 +1,7 @@
 -- lgammaf_r at the values that ISO C's Annex F names, as `AnnexF` of lgamma/proofs/SpecialValues states them: `lgammaf-special`. (The poles, at every
 -- negative whole number: `lgammaf-pole` of SignLaw.) Assumes nothing.
-use Rattle.std.proofs.Common.{true, false, refl, lit<, lit≤}
-use lib.Ieee.{binary32, fits, to_bits, of_bits}
+use Rattle.std.proofs.Common.{◌<◌, pos, true, false, refl, lit<, lit≤}
+use lib.Ieee.{fin, binary32, fits, to_bits, of_bits}
 use Rattle.logarithm.proofs.SpecialValues.{log_zero}
 use Rattle.lgamma.proofs.SpecialValues.{AnnexF, annex_f}
 use Rattle.lgammaf.specs.Lgammaf.{lgamma32}
@@ -13,6 +13,6 @@ lgammaf_special = annex_f lgamma32 regular (record {
   one = record { known = refl; plus_sign = refl; not_tiny = lit≤ tt; finite_ix = lit< tt };
   two = record { known = refl; plus_sign = refl; not_tiny = lit≤ tt; finite_ix = lit< tt };
   zero_fits = λ s. tt;
-  zero_ix = λ s. elim s [ true ↦ lit< tt | false ↦ lit< tt ];
+  zero_ix = λ s. elim s as (λ k. lgamma32.ix (fin k 0 (pos 0)) < lgamma32.tiny) [ true ↦ lit< tt | false ↦ lit< tt ];
   log_of_zero = log_zero binary32 false;
 })

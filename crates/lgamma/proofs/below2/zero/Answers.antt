@@ -1,0 +1,7 @@
+-- `lgamma::below2::zero` meets its contract. Assumes nothing.
+use Rattle.lgamma.specs.Plan.{zero_s}
+use Rattle.lgamma.proofs.below2.zero.Goals as goal
+
+pub returns : goal.returns
+unfolding zero_s
+returns c = rw (c.horner.ensures, c.horner-p1.ensures)
