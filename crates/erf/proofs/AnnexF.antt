@@ -1,4 +1,4 @@
--- The special values of ISO C's Annex F, over the plan: `AnnexF` states them, and a `Regular` plan has them (`annex-f`). Assumes nothing.
+-- The special values of ISO C's Annex F, over the plan: `AnnexF` states them, and a `Regular` plan has them (`annex_f`). Assumes nothing.
 use mathlib.Core.Path.{◌≡◌, refl, sym, ◌∙◌}
 use native.Mathlib.Nat.{lt_trans}
 use mathlib.Core.Bool.{Bool, true, false}

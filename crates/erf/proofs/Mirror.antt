@@ -1,6 +1,6 @@
 -- erf and erfc at -x, over the plan:
---   `erf-odd`: erf(-x) is -erf(x), for every x;
---   `erfc-mirror`: erfc(-x) is 2 - erfc(x), for an x from 0.84375 on, the infinity included.
+--   `erf_odd`: erf(-x) is -erf(x), for every x;
+--   `erfc_mirror`: erfc(-x) is 2 - erfc(x), for an x from 0.84375 on, the infinity included.
 -- Both ask that the plan is `Regular`. From 0.84375 on the formulas look at the size of x alone. Below that, erf is a sum that turns with
 -- its terms: below 2 ^ -28 these have the sign of x, and from there on the sum is above zero with x, so that they never cancel.
 -- Assumes nothing.
@@ -80,7 +80,7 @@ module _ (p : Plan) where
       let a = mul f p.8·0 x in
       let b = mul f p.EFX8 x in
       rw (mul_neg_right f p.8·0 x, mul_neg_right f p.EFX8 x)
-      (ap (mul f p.0·125) (add_odd_plus f a b (times_plus f p.8·0 m e r.eight_plus) (times_plus f p.EFX8 m e r.EFX8-plus))
+      (ap (mul f p.0·125) (add_odd_plus f a b (times_plus f p.8·0 m e r.eight_plus) (times_plus f p.EFX8 m e r.EFX8_plus))
       ∙ mul_neg_right f p.0·125 (add f a b))
 
   -- x + x * y, where it is above zero

@@ -1,8 +1,8 @@
 -- What the laws of erf and erfc at -x and at the special values ask of a plan: `Regular`. Its fields are tests and equations that the checker works out.
 -- What follows, for a finite x with no minus sign and its word ix:
---   `ix-neg`: ix does not see the sign; `ix-finite`: it is below the infinity's;
+--   `ix_neg`: ix does not see the sign; `ix_finite`: it is below the infinity's;
 --   `from_cut`: where x is from a cut's value on, ix is from the cut on;
---   `small-plus`: where ix is from 2 ^ -28 up to 0.84375, the sum x + x * y, which is erf there, is above zero.
+--   `small_plus`: where ix is from 2 ^ -28 up to 0.84375, the sum x + x * y, which is erf there, is above zero.
 -- Assumes nothing.
 use mathlib.Core.Path.{◌≡◌, sym, ap, ◌∙◌, subst}
 use mathlib.Core.List.{[]}
@@ -54,7 +54,7 @@ pub record Regular (p : Plan) : Type 0 where
   pub below_infinity : p.at0·84375 < p.not_finite
   -- constants above zero
   pub eight_plus : T (positive p.8·0)
-  pub EFX8-plus : T (positive p.EFX8)
+  pub EFX8_plus : T (positive p.EFX8)
   pub tiny_plus : T (positive p.tiny)
   pub one_plus : T (positive p.1·0)
   pub cut_plus : T (positive (value_at p without p.at0·84375))

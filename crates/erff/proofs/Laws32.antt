@@ -1,19 +1,21 @@
 -- The laws of erff and erfcf:
---   `erff-special`: the special values of Annex F;
---   `erff-odd`: erff(-x) is -erff(x), for every x (a NaN has no sign);
---   `erfcf-mirror`: erfcf(-x) is 2 - erfcf(x), for an x from 0.84375 on, the infinity included.
+--   `erff_special`: the special values of Annex F;
+--   `erff_odd`: erff(-x) is -erff(x), for every x (a NaN has no sign);
+--   `erfcf_mirror`: erfcf(-x) is 2 - erfcf(x), for an x from 0.84375 on, the infinity included.
 -- Assumes nothing.
-use mathlib.Core.Path.{◌≡◌, refl}
+use mathlib.Core.Path.{◌≡◌, refl, sym, ◌∙◌}
 use mathlib.Core.List.{[]}
+use Prim.Native.Nat.{◌≤◌, ◌<◌}
 use native.Mathlib.Omega.{arith}
 use mathlib.Core.Bool.{true, false}
 use lib.Dec.{T, lit<, lit≤}
-use lib.Ieee.{Float, binary32, add, sub, mul, div, neg, le, of_int, of_bits, to_bits, fits}
+use lib.IntN.{pos}
+use lib.Ieee.{Float, inf, fin, binary32, add, sub, mul, div, neg, le, of_int, of_bits, to_bits, fits}
 use Rattle.rounding.proofs.Range.{ieval, halved_test}
 use Rattle.words.specs.F32.{◌⊖◌, bits}
 use Rattle.poly.proofs.HornerExpr.{horner_e}
 use Rattle.erf.proofs.SmallSum.{sum_e}
-use Rattle.erf.proofs.Regular.{Regular}
+use Rattle.erf.proofs.Regular.{Regular, erf_tiny}
 use Rattle.erf.proofs.AnnexF.{AnnexF, annex_f}
 use Rattle.erf.proofs.Mirror as Mirror
 use Rattle.erff.specs.Erff.{erf32, erff_s, erfcf_s}
@@ -22,6 +24,15 @@ use Rattle.erff.specs.Erff.{erf32, erff_s, erfcf_s}
 small_test : T (halved_test 4 binary32 erf32.tiny erf32.1·0 (sum_e erf32) [] (bits 0x31800000) (bits 0x3F580000))
 unfolding halved_test ieval horner_e add mul div neg le of_bits
 small_test = tt
+
+-- 2 - tiny and 2 - tiny * tiny are both 2
+less_tiny : sub binary32 erf32.2·0 erf32.tiny ≡ erf32.2·0
+unfolding sub of_bits
+less_tiny = refl
+
+less_nothing : sub binary32 erf32.2·0 (mul binary32 erf32.tiny erf32.tiny) ≡ erf32.2·0
+unfolding sub mul of_bits
+less_nothing = refl
 
 -- the plan of f32
 regular : Regular erf32
@@ -32,19 +43,19 @@ regular = record {
   infinity_is = refl;
   below_infinity = omega arith;
   eight_plus = tt;
-  EFX8-plus = tt;
+  EFX8_plus = tt;
   tiny_plus = tt;
   one_plus = tt;
   cut_plus = tt;
   small_test = small_test;
   ix_nan = lit≤ tt;
-  ix_inf = λ s. elim s [ true ↦ lit≤ tt | false ↦ lit≤ tt ];
+  ix_inf = λ s. elim s as (λ t. erf32.not_finite ≤ erf32.ix (inf t)) [ true ↦ lit≤ tt | false ↦ lit≤ tt ];
   erf_ends = (refl, refl, refl);
   erfc_ends = (refl, refl, refl);
-  ix_zero = λ s. elim s [ true ↦ lit< tt | false ↦ lit< tt ];
+  ix_zero = λ s. elim s as (λ t. erf32.ix (fin t 0 (pos 0)) < erf32.at2^-28) [ true ↦ lit< tt | false ↦ lit< tt ];
   small_cuts = omega arith;
-  at_zero = λ s. elim s [ true ↦ refl | false ↦ refl ];
-  far = refl;
+  at_zero = λ s. elim s as (λ t. erf_tiny erf32 (fin t 0 (pos 0)) ≡ fin t 0 (pos 0)) [ true ↦ refl | false ↦ refl ];
+  far = less_tiny ∙ sym less_nothing;
   two_less_zero = refl;
 }
 

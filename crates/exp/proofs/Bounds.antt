@@ -1,4 +1,4 @@
--- exp lies from 2 ^ -300 to 1 for every f64 from -190 to -5.5 (`exp-range`). Assumes nothing.
+-- exp lies from 2 ^ -300 to 1 for every f64 from -190 to -5.5 (`exp_range`). Assumes nothing.
 use Rattle.std.proofs.Common.{◌≡◌, ℕ, zero, suc, ◌+◌, ◌*◌, ◌<◌, ◌≤◌, true, false, T, [], ℤ, pos, negsuc, neg_ℤ, ap, ◌∙◌, arith, lit<, lt-ltb, le-leb}
 use lib.Ieee.{Float, nan, inf, fin, binary64, of_bits, add, mul, neg, le, fits, up, down}
 use lib.Ieee.Fits.{down_pos}

@@ -1,5 +1,5 @@
--- For each multiple k = -(j + 1) of ln 2, j from 7 to 274: the arguments that are reduced to k lie between two ends (`over-low`, `under-high`),
--- and there exp's answer for k lies from 2 ^ -300 to 1 (`cell-range`). The ends and what is needed of them are tested for all j. Assumes nothing.
+-- For each multiple k = -(j + 1) of ln 2, j from 7 to 274: the arguments that are reduced to k lie between two ends (`over_low`, `under_high`),
+-- and there exp's answer for k lies from 2 ^ -300 to 1 (`cell_range`). The ends and what is needed of them are tested for all j. Assumes nothing.
 use Rattle.std.proofs.Common.{◌≡◌, ℕ, zero, suc, ◌+◌, ◌-◌, ◌*◌, ◌<◌, ◌≤◌, Bool, true, false, not, ◌&&◌, T, List, [], ◌∷◌, pos, negsuc, sym, refl, subst, inl, inr, eq-or-lt_of_le, arith, lit≤, T_not, le-ltb, ne_eqb}
 use lib.Ieee.{Float, fin, binary64, of_bits, add, sub, mul, le, of_int}
 use lib.Ieee.Fits.{and_l, and_r}
@@ -182,14 +182,14 @@ pub cell_range : (j : ℕ) (x : Float) → 7 ≤ j → j ≤ 274 → In (low_end
 unfolding reduced_s multiple is_hi_ok is_lo_ok hi_e lo_e eval
 cell_range j x h k i =
     let K = multiple j in
-    let lo-test = range_test binary64 lo_min lo_max lo_e [] K K in
+    let lo_test = range_test binary64 lo_min lo_max lo_e [] K K in
     let t = here j h k is_lo_ok lo_ok in
-    let finite-K = and_l (finite K) lo-test t in
-    let K-K = le_refl K finite-K in
+    let finite_k = and_l (finite K) lo_test t in
+    let k_to_k = le_refl K finite_k in
     let hi = x ⊖ K ⊗ exp64.LN2HI in
     let lo = K ⊗ exp64.LN2LO in
-    let hi-in =
+    let hi_in =
     range binary64 hi_min hi_max hi_e (some K K ∷ []) (K ∷ []) (low_end j) (high_end j) x (here j h k is_hi_ok hi_ok)
-    ((finite-K, finite-K, K-K, K-K), tt) i in
-    let lo-in = range binary64 lo_min lo_max lo_e [] [] K K K (and_r (finite K) lo-test t) tt (K-K, K-K) in
-    rw (primary_is hi lo j) (scale_range j (unscaled hi lo) h k (unscaled_range hi lo hi-in lo-in))
+    ((finite_k, finite_k, k_to_k, k_to_k), tt) i in
+    let lo_in = range binary64 lo_min lo_max lo_e [] [] K K K (and_r (finite K) lo_test t) tt (k_to_k, k_to_k) in
+    rw (primary_is hi lo j) (scale_range j (unscaled hi lo) h k (unscaled_range hi lo hi_in lo_in))

@@ -1,4 +1,4 @@
--- The answer before it is scaled, for an argument hi - lo in the primary range, lies from 1/4 to 4 (`unscaled-range`). Assumes nothing.
+-- The answer before it is scaled, for an argument hi - lo in the primary range, lies from 1/4 to 4 (`unscaled_range`). Assumes nothing.
 use Rattle.std.proofs.Common.{◌≡◌, true, false, T, [], ◌∷◌, pos, negsuc, ap, subst}
 use lib.Ieee.{Float, fin, binary64, of_bits, add, sub, mul, div, le}
 use Rattle.rounding.proofs.Interval.{some}

@@ -1,5 +1,5 @@
--- The course of `productS` where |z| is below 1024, z the high part of y times log2: `product-within`. Then |z| up to 0.5 leaves n = 0 (`exp2-near`).
--- (Above 0.5: Laws, `rounded-up` and `rounded-down`.) Assumes nothing.
+-- The course of `product_s` where |z| is below 1024, z the high part of y times log2: `product_within`. Then |z| up to 0.5 leaves n = 0 (`exp2_near`).
+-- (Above 0.5: Laws, `rounded_up` and `rounded_down`.) Assumes nothing.
 use Prim.Native.Nat.{ℕ, ◌%◌, ◌^◌, ◌<◌, ◌≤◌}
 use mathlib.Core.Path.{◌≡◌, refl}
 use mathlib.Core.Bool.{Bool, true, false, and-false}

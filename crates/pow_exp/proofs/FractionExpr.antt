@@ -1,5 +1,5 @@
--- 2 ** (p_h + p_l), after n is taken off, as an expression in t and e = p_l - (t - p_h), so that intervals bound it: `fractionE` has fraction_s for
--- its value (`fraction-is`). That is an f64 (`fraction-fits`). Assumes nothing.
+-- 2 ** (p_h + p_l), after n is taken off, as an expression in t and e = p_l - (t - p_h), so that intervals bound it: `fraction_e` has fraction_s for
+-- its value (`fraction_is`). That is an f64 (`fraction_fits`). Assumes nothing.
 use mathlib.Core.Path.{◌≡◌, ap}
 use mathlib.Core.List.{[], ◌∷◌}
 use lib.Dec.{T}

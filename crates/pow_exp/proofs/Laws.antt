@@ -31,11 +31,11 @@ module _ (z : Float) (n : ℤ) (j : ℕ) (r : Float) (is : j ≡ (high_word_s z 
       simp (le-ltb _ _ (subst (λ (k : ℕ). 2 ^ 20 ≤ k) is g), lt-leb _ _ (subst (λ (k : ℕ). k < 2 ^ 31) is h)) (q ∙ ap (with_high_word_s z) is)
 
 -- the two cases of n's sign, where |z| > 0.5
-module _ (s p_h p_l : Float) (j d : ℕ) (t f z : Float) (far : 0x3FE00000 < j % 2 ^ 31) (is-d : d ≡ 20 - (field j - 0x3FF)) (is-t : t ≡ with_high_word_s (bits 0) ((j + half j) / 2 ^ d * 2 ^ d)) (is_f : f ≡ fraction_s (p_h ⊖ t) p_l) where
+module _ (s p_h p_l : Float) (j d : ℕ) (t f z : Float) (far : 0x3FE00000 < j % 2 ^ 31) (is_d : d ≡ 20 - (field j - 0x3FF)) (is_t : t ≡ with_high_word_s (bits 0) ((j + half j) / 2 ^ d * 2 ^ d)) (is_f : f ≡ fraction_s (p_h ⊖ t) p_l) where
   pub rounded_up : j < 2 ^ 31 → z ≡ scaled_s f (pos (((j + half j) % 2 ^ 20 + 2 ^ 20) / 2 ^ d)) → s ⊗ z ≡ exp2_s s p_h p_l j
   unfolding exp2_s
-  rounded_up h q = simp (lt-ltb _ _ far, lt-leb _ _ h) (rw (q, is_f, is-t, is-d))
+  rounded_up h q = simp (lt-ltb _ _ far, lt-leb _ _ h) (rw (q, is_f, is_t, is_d))
 
   pub rounded_down : 2 ^ 31 ≤ j → z ≡ scaled_s f (neg_ℤ (pos (((j + half j) % 2 ^ 20 + 2 ^ 20) / 2 ^ d))) → s ⊗ z ≡ exp2_s s p_h p_l j
   unfolding exp2_s
-  rounded_down h q = simp (lt-ltb _ _ far, le-leb _ _ h) (rw (q, is_f, is-t, is-d))
+  rounded_down h q = simp (lt-ltb _ _ far, le-leb _ _ h) (rw (q, is_f, is_t, is_d))

@@ -1,5 +1,5 @@
--- log2 of an ax from 1 on, by its high word ix: the exponent is n, and j are the digits of the word. `log2-low`: up to 0x3988E the interval at 1;
--- `log2-middle`: below 0xBB67A that at 1.5; `log2-high`: from there on that at 1 again, of half of ax. Assumes nothing.
+-- log2 of an ax from 1 on, by its high word ix: the exponent is n, and j are the digits of the word. `log2_low`: up to 0x3988E the interval at 1;
+-- `log2_middle`: below 0xBB67A that at 1.5; `log2_high`: from there on that at 1 again, of half of ax. Assumes nothing.
 use Prim.Native.Nat.{ℕ, ◌+◌, ◌-◌, ◌/◌, ◌%◌, ◌^◌, ◌≤◌, ◌<◌}
 use mathlib.Core.Path.{◌≡◌, refl, sym, ◌∙◌}
 use native.Mathlib.Omega.{arith}

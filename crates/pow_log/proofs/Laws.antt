@@ -34,14 +34,14 @@ pub series :
 unfolding series_s
 series ax bp t_h dp_h dp_l t s_h hn r_h p_h t1 e1 e2 e3 e4 e5 = rw (e5, e4, e3, e2, e1)
 
-module _ (ax : Float) (ix : ℕ) (n : ℤ) (a t_h : Float) (r : Parts) (is-a : a ≡ with_high_word_s ax ix) where
+module _ (ax : Float) (ix : ℕ) (n : ℤ) (a t_h : Float) (r : Parts) (is_a : a ≡ with_high_word_s ax ix) where
   pub interval_by : (k : ℕ)
       → t_h ≡ with_high_word_s (bits 0) (ix / 2 + 0x20080000 + k * 0x40000)
       → r ≡ series_s a (BP k) t_h (DP_H k) (DP_L k) (of_int binary64 n) → r ≡ interval_s ax ix k n
   unfolding interval_s
-  interval_by k is-t q =
+  interval_by k is_t q =
       let w : ix / 2 + 0x20080000 + k * 0x40000 ≡ ix / 2 + 0x20000000 + 0x00080000 + k * 2 ^ 18 = omega arith in
-      rw (q, is-a, is-t, w)
+      rw (q, is_a, is_t, w)
 
 module _ (ax : Float) (ix bias : ℕ) (n : ℤ) (r : Parts) where
   pub near_one : ix % 2 ^ 20 ≤ 0x3988E → n ≡ pos (ix / 2 ^ 20) -ℤ pos bias → r ≡ interval_s ax (ix % 2 ^ 20 + 0x3FF00000) 0 n → r ≡ normal_s ax ix (pos 0x3FF -ℤ pos bias)

@@ -1,5 +1,5 @@
--- The logarithm's series as an expression in ax, t_h and t, so that intervals bound its two parts: `t1E` and `t2E` have t1 and t2 for their values
--- (`t1-is`, `t2-is`). Assumes nothing.
+-- The logarithm's series as an expression in ax, t_h and t, so that intervals bound its two parts: `t1_e` and `t2_e` have t1 and t2 for their values
+-- (`t1_is`, `t2_is`). Assumes nothing.
 use mathlib.Core.Path.{◌≡◌, sym, ap}
 use mathlib.Core.List.{[], ◌∷◌}
 use lib.Ieee.{Float, binary64}
@@ -11,7 +11,7 @@ use Rattle.pow_log.specs.declared.Parts.{Parts}
 use Rattle.pow_log.specs.Log2.{L, CP, CP_H, CP_L, series_s}
 use Rattle.pow_log.proofs.Laws.{series}
 
--- `seriesS` up to t1, and then e: u, v, ss, s_h, t_l, s_l, s2, r, r, s2, t_h, t_l, u, v, p_h, p_l, z_h, z_l and t1 are named in turn
+-- `series_s` up to t1, and then e: u, v, ss, s_h, t_l, s_l, s2, r, r, s2, t_h, t_l, u, v, p_h, p_l, z_h, z_l and t1 are named in turn
 abbrev series_e : Float → Float → Float → Expr → Expr
 series_e bp dp_h dp_l e =
     share (minus (var 0) (con bp))
