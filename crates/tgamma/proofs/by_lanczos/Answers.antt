@@ -2,7 +2,6 @@
 use mathlib.Core.Path.{◌≡◌, refl}
 use mathlib.Core.Bool.{Bool, true, false}
 use lib.Ieee.{Float, neg, lt}
-use borrow.Author.Rules.{rules}
 use Rattle.words.specs.Pick.{pick}
 use Rattle.words.specs.F64.{0·0}
 use Rattle.tgamma.specs.Tgamma.{last_s, lanczos_s}

@@ -2,7 +2,6 @@
 use lib.Ieee.{nan_bits}
 use Rattle.tgamma.specs.Tgamma.{general_s}
 use borrow.Author.Tests.{le-leb, lt-leb, eq-eqb, ne_eqb}
-use borrow.Author.Rules.{rules}
 use Rattle.tgamma.proofs.general.Goals as goal
 
 pub returns-then-sign-eq1 : goal.returns-then-sign-eq1

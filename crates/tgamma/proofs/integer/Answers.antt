@@ -7,7 +7,6 @@ use mir.Syntax.{w32}
 use mir.Val.{to_z, of_z}
 use mir.ValLaws.{to_z-of_z}
 use borrow.Author.Tests.{eq-eqb, ne_eqb}
-use borrow.Author.Rules.{rules}
 use Rattle.whole.proofs.WholeBounds.{Plus}
 use Rattle.tgamma.specs.Tgamma.{integer_s}
 use Rattle.tgamma.proofs.FactIndex.{fact_index}

@@ -1,6 +1,5 @@
 -- `tgamma::last` meets its contract. Assumes nothing.
 use Rattle.tgamma.specs.Tgamma.{last_s}
-use borrow.Author.Rules.{rules}
 use Rattle.tgamma.proofs.last.Goals as goal
 
 pub returns : goal.returns

@@ -1,5 +1,4 @@
 -- `tgamma::reflected` meets its contract. Assumes nothing.
-use borrow.Author.Rules.{rules}
 use Rattle.tgamma.proofs.reflected.Goals as goal
 
 pub returns-then-x : goal.returns-then-x

@@ -6,7 +6,6 @@ use native.Mathlib.Omega.{arith}
 use lib.Dec.{T}
 use lib.Ieee.{Float, nan, inf, fin, binary64, is_nan, eq, fits, nan_bits, to_bits}
 use borrow.Author.Tests.{le-leb, lt-leb, lt-ltb, le-ltb}
-use borrow.Author.Rules.{rules}
 use Rattle.words.specs.Bits.{size_word_s}
 use Rattle.floor.specs.Floor.{floor_s}
 use Rattle.whole.specs.Whole.{has_fraction_s}

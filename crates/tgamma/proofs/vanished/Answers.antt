@@ -6,7 +6,6 @@ use Rattle.words.specs.Tests.{◌=·◌}
 use Rattle.words.specs.F64.{◌⊗◌, 0·5}
 use Rattle.floor.specs.Floor.{floor_s}
 use Rattle.tgamma.specs.Tgamma.{vanished_s}
-use borrow.Author.Rules.{rules}
 use Rattle.tgamma.proofs.vanished.Goals as goal
 
 -- the test of the definition

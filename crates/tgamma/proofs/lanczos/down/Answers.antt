@@ -1,9 +1,8 @@
 -- `tgamma::lanczos::down` meets its contract. Assumes nothing.
-use Prim.Native.Nat.{ℕ, ◌≤◌, ◌-◌}
+use Prim.Native.Nat.{ℕ, ◌-◌}
 use mathlib.Core.Path.{◌≡◌, ap, ◌∙◌}
 use native.Mathlib.Omega.{arith}
-use borrow.Author.Rules.{rules}
-use lib.ListN.{length, drop}
+use lib.ListN.{drop}
 use Rattle.tgamma.specs.Lanczos.{down_s}
 use Rattle.tgamma.proofs.Turns as turns
 use Rattle.tgamma.proofs.lanczos.down.Goals as goal

@@ -1,11 +1,8 @@
 -- `tgamma::lanczos::down` meets its contract. Assumes nothing.
-use Prim.Native.Nat.{ℕ, ◌≤◌, ◌-◌}
-use mathlib.Core.Path.{◌≡◌, ap, ◌∙◌}
-use native.Mathlib.Omega.{arith}
-use borrow.Author.Rules.{rules}
+use Prim.Native.Nat.{◌≤◌}
+use mathlib.Core.Path.{◌≡◌}
 use lib.ListN.{length, drop}
 use Rattle.tgamma.specs.Lanczos.{down_s}
-use Rattle.tgamma.proofs.Turns as turns
 use Rattle.tgamma.proofs.lanczos.down.Given as goal
 
 abbrev pub invariant-loop-i : goal.invariant-loop-i

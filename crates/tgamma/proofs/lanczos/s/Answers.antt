@@ -4,7 +4,6 @@ use mathlib.Core.Bool.{true, false}
 use Rattle.words.specs.Tests.{◌<·◌}
 use Rattle.words.specs.F64.{8·0}
 use Rattle.tgamma.specs.Lanczos.{s_s}
-use borrow.Author.Rules.{rules}
 use Rattle.tgamma.proofs.lanczos.s.Goals as goal
 
 pub returns-then-x : goal.returns-then-x

@@ -1,11 +1,6 @@
 -- `tgamma::lanczos::up` meets its contract. Assumes nothing.
-use Prim.Native.Nat.{◌≤◌, ◌-◌}
-use mathlib.Core.Path.{◌≡◌, refl, ◌∙◌}
+use mathlib.Core.Path.{refl, ◌∙◌}
 use native.Mathlib.Omega.{arith}
-use borrow.Author.Rules.{rules}
-use lib.ListN.{length, drop}
-use Rattle.words.specs.F64.{bits}
-use Rattle.tgamma.specs.Lanczos.{up_s}
 use Rattle.tgamma.proofs.Turns as turns
 use Rattle.tgamma.proofs.lanczos.up.Goals as goal
 

@@ -1,12 +1,9 @@
 -- `tgamma::lanczos::up` meets its contract. Assumes nothing.
 use Prim.Native.Nat.{◌≤◌, ◌-◌}
-use mathlib.Core.Path.{◌≡◌, refl, ◌∙◌}
-use native.Mathlib.Omega.{arith}
-use borrow.Author.Rules.{rules}
+use mathlib.Core.Path.{◌≡◌}
 use lib.ListN.{length, drop}
 use Rattle.words.specs.F64.{bits}
 use Rattle.tgamma.specs.Lanczos.{up_s}
-use Rattle.tgamma.proofs.Turns as turns
 use Rattle.tgamma.proofs.lanczos.up.Given as goal
 
 abbrev pub invariant-loop-i : goal.invariant-loop-i
