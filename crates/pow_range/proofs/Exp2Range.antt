@@ -1,5 +1,5 @@
 -- In `exp2S`, for p_l and p_h of at most 900 in size together: the power of 2 that is left when n is taken off lies from 1/4 to 4, where
--- |z| is above 1/2 (`far-range`) and where it is not (`near-range`), and n is at most 902 (`n-le`). Assumes nothing.
+-- |z| is above 1/2 (`far_range`) and where it is not (`near_range`), and n is at most 902 (`n-le`). Assumes nothing.
 use Prim.Native.Nat.{ℕ, ◌+◌, ◌*◌, ◌/◌, ◌%◌, ◌^◌, ◌≤◌, ◌<◌}
 use mathlib.Core.Path.{◌≡◌, refl, sym, subst}
 use mathlib.Core.Bool.{Bool, true, false}

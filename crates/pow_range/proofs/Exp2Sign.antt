@@ -1,4 +1,4 @@
--- `exp2S` with the sign 1 is no NaN and carries no minus sign, for p_l and p_h of at most 900 in size together: `exp2-plus`. Assumes nothing.
+-- `exp2S` with the sign 1 is no NaN and carries no minus sign, for p_l and p_h of at most 900 in size together: `exp2_plus`. Assumes nothing.
 use Prim.Native.Nat.{ℕ, zero, suc, ◌+◌, ◌-◌, ◌*◌, ◌%◌, ◌^◌, ◌≤◌, ◌<◌, zero-le}
 use mathlib.Core.Path.{◌≡◌, refl, sym, subst}
 use mathlib.Core.Bool.{Bool, true, false}

@@ -1,4 +1,4 @@
--- 2 ** (p_h + p_l), after n is taken off, lies from 1/4 to 4: `fraction-range`. By intervals. Assumes nothing.
+-- 2 ** (p_h + p_l), after n is taken off, lies from 1/4 to 4: `fraction_range`. By intervals. Assumes nothing.
 use mathlib.Core.Path.{subst}
 use mathlib.Core.Bool.{false}
 use mathlib.Core.List.{[], ◌∷◌}

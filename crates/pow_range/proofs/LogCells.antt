@@ -1,4 +1,4 @@
--- The logarithm's parts t1 and t2 by intervals, on cells of the high word: `cells-range`. Assumes nothing.
+-- The logarithm's parts t1 and t2 by intervals, on cells of the high word: `cells_range`. Assumes nothing.
 use Prim.Native.Nat.{ℕ, zero, suc, ◌+◌, ◌*◌, ◌/◌, ◌^◌, ◌≤◌, ◌<◌}
 use mathlib.Core.Path.{◌≡◌, refl, ap, ◌∙◌, subst}
 use mathlib.Core.Bool.{Bool, true, false}

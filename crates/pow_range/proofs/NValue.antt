@@ -1,4 +1,4 @@
--- n and z as numbers of the smallest unit, of which 2 ^ 1074 are 1: `z-near` says that n is within 1/2 and `slack` of z, and `n-value`
+-- n and z as numbers of the smallest unit, of which 2 ^ 1074 are 1: `z_near` says that n is within 1/2 and `slack` of z, and `n-value`
 -- that the float t is n. Assumes nothing.
 use Prim.Native.Nat.{ℕ, suc, ◌+◌, ◌-◌, ◌*◌, ◌/◌, ◌%◌, ◌^◌, ◌≤◌, ◌<◌}
 use mathlib.Core.Bool.{true, false}

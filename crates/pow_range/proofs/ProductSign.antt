@@ -1,5 +1,5 @@
 -- `productS` with the sign 1 is no NaN and carries no minus sign, for a y of at most 92 in size, t1 of at most 8 and t2 of at most 1:
--- `product-plus`. Assumes nothing.
+-- `product_plus`. Assumes nothing.
 use Prim.Native.Nat.{ℕ, ◌+◌, ◌-◌, ◌*◌, ◌^◌, ◌≤◌}
 use mathlib.Core.Path.{refl, sym, subst}
 use mathlib.Core.Bool.{Bool, true, false}

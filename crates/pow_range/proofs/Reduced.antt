@@ -1,5 +1,5 @@
 -- The sum of two values p_l and g of at most 2048 in size, where it is at most 1/2 and a little in size: its upper word's value t and
--- what that leaves, e, are as small as `fraction-range` wants them: `small-parts`. Linear in the smallest unit. Assumes nothing.
+-- what that leaves, e, are as small as `fraction_range` wants them: `small_parts`. Linear in the smallest unit. Assumes nothing.
 use Prim.Native.Nat.{ℕ, ◌+◌, ◌-◌, ◌*◌, ◌/◌, ◌^◌, ◌≤◌}
 use mathlib.Core.Path.{◌≡◌, refl, sym, subst}
 use mathlib.Core.Bool.{Bool, true, false}

@@ -1,7 +1,7 @@
 -- A gamma function and a log-gamma by the sign and the whole part of a finite x that is no negative whole number: both have one sign, minus exactly where
 -- x carries a minus sign and the whole part of its size is even (`Case`). So it is with tgamma and lgamma_r (`case`), and in f32 with tgammaf and
--- lgammaf_r, and with tgammaf and lgamma_r (`case-f32`, `case-wide`). What that says of sign bits and of the numbers reported, over the format, is the
--- theorem (`FromCases`), with what is shown at the poles (`poles-of`). Assumes nothing.
+-- lgammaf_r, and with tgammaf and lgamma_r (`case_f32`, `case_wide`). What that says of sign bits and of the numbers reported, over the format, is the
+-- theorem (`FromCases`), with what is shown at the poles (`poles_of`). Assumes nothing.
 use mathlib.Core.Path.{◌≡◌, refl, sym, ap, ◌∙◌, subst}
 use mathlib.Core.Logic.{◌⊎◌, inl, inr}
 use mathlib.Core.List.{[]}

@@ -1,5 +1,5 @@
 -- tgamma's correction r + dy (GMHALF + 0.5) r / y, where y is x + GMHALF and dy the error of that sum:
---   `dy-range`: dy is at most 2 ^ -10 in size, for x from 2 ^ -54 to 184; `factor-range`: so dy (GMHALF + 0.5) is at most 1 in size;
+--   `dy_range`: dy is at most 2 ^ -10 in size, for x from 2 ^ -54 to 184; `factor_range`: so dy (GMHALF + 0.5) is at most 1 in size;
 --   `corrected`: r + c r / y is above zero for an r above zero, a c of at most 1 in size and a y from 4 on, over the format;
 --   `correction`: for an r of either sign from 2 ^ -600 to 2 ^ 600 in size it has r's sign, is finite and no zero.
 -- Assumes nothing.
