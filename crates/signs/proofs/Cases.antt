@@ -115,7 +115,7 @@ case_f32 x F f n =
     record { sign = c.sign; gamma = c.gamma; log = same_sign x F ∙ c.log; minus = c.minus; only = c.only }
 
 -- ---- what the cases say, in either format
-module _ (f : Format) (g : Float → Float) (l : Float → Answer) (g-fits : (x : Float) → T (fits f (g x)))
+module _ (f : Format) (g : Float → Float) (l : Float → Answer) (g_fits : (x : Float) → T (fits f (g x)))
     (cases : (x : Float) → T (fits f x) → Finite x → (NegativeWhole x → ⊥) → Case g l x) where
   pub record FromCases : Type 0 where
     pub no_nan : NoNan f g
@@ -123,7 +123,7 @@ module _ (f : Format) (g : Float → Float) (l : Float → Answer) (g-fits : (x 
     pub sign_rule : SignRule f g
 
   gamma_bit : (x : Float) (c : Case g l x) → sign_s f (g x) ≡ cond c.sign 1 0
-  gamma_bit x c = signed_bit f c.sign (g x) (g-fits x) c.gamma
+  gamma_bit x c = signed_bit f c.sign (g x) (g_fits x) c.gamma
 
   pub from_cases : FromCases
   from_cases = record {

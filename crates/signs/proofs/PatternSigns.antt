@@ -61,13 +61,13 @@ bits_mean f n l = record {
 }
 
 -- ---- from values to bits, in either format
-module _ (f : Format) (g : Float → Float) (g-fits : (x : Float) → T (fits f (g x))) where
+module _ (f : Format) (g : Float → Float) (g_fits : (x : Float) → T (fits f (g x))) where
   no_nan_of : NoNan f g → NoNanBits f g
   no_nan_of k n r l h w e d =
       let x = of_bits f n in
       let v = bits_mean f n l in
       k x (of_bits-fits f n) (v.finite h) (λ p. w (v.whole_back h p))
-      (sym (ap (of_bits f) e ∙ of_bits-to_bits f (g x) (g-fits x)) ∙ nan_value f r d)
+      (sym (ap (of_bits f) e ∙ of_bits-to_bits f (g x) (g_fits x)) ∙ nan_value f r d)
 
   sign_rule_of : SignRule f g → SignRuleBits f g
   sign_rule_of k n r l h w e =
