@@ -10,14 +10,13 @@ use borrow.Author.Tests.{ne_eqb, eqb-true}
 use lib.Dec.{T, eqb, leb, eqb→eq, leb→le}
 use lib.ListN.{length}
 use Rattle.words.specs.Pick.{pick}
-use Rattle.kinds.specs.Shape.{Shape, shape, total, shape_in, request_length, answer_length}
+use Rattle.kinds.specs.Shape.{Shape, shape, total, shape_in, answer_length}
 use Rattle.kinds.specs.Kinds.{shapes, shape_of, longest_answer}
 use Rattle.kinds.proofs.Every.{and_left, and_right}
 use Rattle.kinds.proofs.ShapeLaws.{body_small, answer_light, answer_longest}
 use Rattle.records.specs.Reply.{bytes_of}
 use Rattle.records.specs.Row.{Row, no_row, row_in}
 use Rattle.replies.specs.Table.{Meaning, meanings, first_width, other_widths, answer, row_of, table, reply_s}
-use Rattle.records.specs.declared.Reply.{Reply}
 use Rattle.records.proofs.ReplyLaws.{length_bytes}
 
 -- k is the kind of no row: what is left of `rest` where it was tested against each, one after the other
