@@ -71,10 +71,10 @@ same_order a b u v h k = go (ltb u v) refl
   where
     go : (t : Bool) → ltb u v ≡ t → ltb a b ≡ t
     go true e = lt-ltb a b (k (ltb-true u v e))
-    go false e = let l = ltb-false u v e in le-ltb a b (not-less (λ (x : a < b). clash (h x) l))
+    go false e = let l = ltb-false u v e in le-ltb a b (not_less (λ (x : a < b). clash (h x) l))
       where
-        not-less : (a < b → ⊥) → b ≤ a
-        not-less n = omega arith
+        not_less : (a < b → ⊥) → b ≤ a
+        not_less n = omega arith
 
         clash : u < v → v ≤ u → ⊥
         clash x y = omega arith

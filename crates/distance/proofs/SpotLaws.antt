@@ -34,10 +34,6 @@ both true t x y = refl
 both false true x y = refl
 both false false x y = refl
 
--- two numbers have a distance
-pub of_numbers : (m n : Bool) (x y : Apart) → m ≡ true → n ≡ true → x ≡ pick (m && n) x y
-of_numbers m n x y h k = rw (h, k)
-
 -- from two spots to the distance
 pub by_spots : (f : Format) (a b K : ℕ) (m n : Bool) (u v : ℕ) → m ≡ not (nan_bits f a) → n ≡ not (nan_bits f b)
     → pos u ≡ place_s f a +ℤ pos K → pos v ≡ place_s f b +ℤ pos K

@@ -1,4 +1,4 @@
--- The Rust's way to floor, by masks on the bit pattern, comes to `floorS` for every pattern of the format (`by_bits`). Assumes nothing.
+-- The Rust's way to floor, by masks on the bit pattern, comes to `floor_s` for every pattern of the format (`by_bits`). Assumes nothing.
 use Rattle.std.specs.Prelude.{if◌then◌else◌}
 use Rattle.std.proofs.Common.{◌≡◌, ℕ, ◌+◌, ◌-◌, ◌*◌, ◌/◌, ◌%◌, ◌^◌, ◌<◌, ◌≤◌, Bool, true, false, not, T, eqb, sym, ap, ◌∙◌, subst, inl, inr, mod-eq_of_lt, eq-zero-or-pos, pos_of_ne-zero, div-le_self, arith, eqb→eq, ltb→lt, leb→le, nltb→le, pow_pos, eq-eqb, le-leb}
 use lib.Bits.{bit_and, and_mask, and_high}

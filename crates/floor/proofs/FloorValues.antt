@@ -1,9 +1,9 @@
 -- floor by the value of x = ±d / w, over the format:
---   `stays`: a whole x stays, and has the value of its whole part (`whole-value`); `falls`: any other goes to the y whose size is next (`sizeBelow`);
---   `floor-part`, `floor-plus`: the value of the floor, of an x that is not whole and of one with no minus sign;
---   `rest-same`: two fractions of one value both leave a remainder, or neither does;
---   `floor-own`, `floor-same`, `floor-differs`, `floor-whole`: the test x == floor(x) holds of the whole numbers and of no others;
---   `floor-at-most`: the floor is at most x; `floor-inf`: an infinity stays; `floor-number`: the floor of a number is a number.
+--   `stays`: a whole x stays, and has the value of its whole part (`whole_value`); `falls`: any other goes to the y whose size is next (`size_below`);
+--   `floor_part`, `floor_plus`: the value of the floor, of an x that is not whole and of one with no minus sign;
+--   `rest_same`: two fractions of one value both leave a remainder, or neither does;
+--   `floor_own`, `floor_same`, `floor_differs`, `floor_whole`: the test x == floor(x) holds of the whole numbers and of no others;
+--   `floor_at_most`: the floor is at most x; `floor_inf`: an infinity stays; `floor_number`: the floor of a number is a number.
 -- Assumes nothing.
 use Rattle.std.proofs.Common.{◌≡◌, ℕ, zero, suc, ◌+◌, ◌-◌, ◌*◌, ◌/◌, ◌%◌, ◌^◌, ◌<◌, ◌≤◌, Bool, true, false, cond, not, T, eqb, ℤ, pos, negsuc, sym, refl, ap, ◌∙◌, subst, inl, inr, true≢false, lt_of_lt_of_le, le_of_lt, lt_irrefl, mod-lt, zero-lt-suc, suc-mul, div-lt_iff_lt-mul, add-mul, eq-zero-or-pos, mul-pos, div-add-mod', zero-mul, mul-one, mul_right_comm, arith, pow_pos, pow_mono, eq-eqb, ne_eqb}
 use native.Mathlib.Nat.{mul-mod_left, mod-one, pow-succ'}

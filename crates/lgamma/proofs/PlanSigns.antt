@@ -1,5 +1,5 @@
--- The sign that log-gamma reports, over the plan: `plus`, `at-pole`, `minus-even` and `minus-odd` for every finite argument but zero, by its whole part,
--- and `sign-is` for every argument: the sign depends on nothing but the value (`sign_of`). All ask that the plan is `Regular`. Assumes nothing.
+-- The sign that log-gamma reports, over the plan: `plus`, `at_pole`, `minus_even` and `minus_odd` for every finite argument but zero, by its whole part,
+-- and `sign_is` for every argument: the sign depends on nothing but the value (`sign_of`). All ask that the plan is `Regular`. Assumes nothing.
 use mathlib.Core.Path.{◌≡◌, refl, sym, ap, ◌∙◌, subst}
 use Prim.Native.Nat.{ℕ, suc, ◌+◌, ◌*◌, ◌/◌, ◌%◌, ◌^◌, ◌<◌, ◌≤◌}
 use native.Mathlib.Nat.{mul-pos, mul-le-mul_left, mod-eq_of_lt, div-eq_of_lt, lt_irrefl}

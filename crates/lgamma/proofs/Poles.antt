@@ -1,5 +1,5 @@
 -- A negative argument of log-gamma over the plan, of which x, from the plan's tiny cut on, is the size: +inf with the sign +1 where x is a whole number
--- (`pole`), and else the sign -1 where the whole part of x is even (`sign-even`) and +1 where it is odd (`sign-odd`). All three ask that the plan is
+-- (`pole`), and else the sign -1 where the whole part of x is even (`sign_even`) and +1 where it is odd (`sign_odd`). All three ask that the plan is
 -- `Regular`. Assumes nothing.
 use mathlib.Core.Path.{◌≡◌, refl}
 use Prim.Native.Nat.{ℕ, ◌*◌, ◌/◌, ◌%◌, ◌<◌, ◌≤◌}

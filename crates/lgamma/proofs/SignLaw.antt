@@ -1,6 +1,6 @@
 -- The sign that lgamma_r reports, for every finite argument: -1 exactly where the argument carries a minus sign, is zero or no whole number, and the
 -- whole part of its size is even. A finite argument is ±(m * up e) / (down e): it is whole where that leaves no remainder, and the whole part of its
--- size is the quotient. `lgamma-sign` says it of every argument at once.
+-- size is the quotient. `lgamma_sign` says it of every argument at once.
 -- Assumes nothing.
 use mathlib.Core.Path.{◌≡◌, refl}
 use Prim.Native.Nat.{ℕ, ◌*◌, ◌/◌, ◌%◌, ◌<◌, ◌≤◌}

@@ -1,6 +1,6 @@
 -- Log-gamma at the values that ISO C's Annex F names, over the plan: NaN at a NaN, +inf at either infinity, +0 at 1 and at 2, +inf at either zero, whose
--- sign bit the sign is taken from. `AnnexF` states them, and a `Regular` plan has them (`annex-f`); `lgamma-special`: lgamma_r has them. (The poles, at
--- every negative whole number: `at-pole` of SignLaw.) Assumes nothing.
+-- sign bit the sign is taken from. `AnnexF` states them, and a `Regular` plan has them (`annex_f`); `lgamma_special`: lgamma_r has them. (The poles, at
+-- every negative whole number: `at_pole` of SignLaw.) Assumes nothing.
 use mathlib.Core.Path.{◌≡◌, refl, ap}
 use Prim.Native.Nat.{◌<◌, ◌≤◌}
 use mathlib.Core.Bool.{Bool, true, false}

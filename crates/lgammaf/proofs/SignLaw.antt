@@ -1,5 +1,5 @@
 -- The plan of lgammaf_r is regular, so that what lgamma/proofs/PlanSigns says of the sign holds in f32: it depends on nothing but the value
--- (`lgammaf-sign`), and every negative whole number is a pole (`lgammaf-pole`). Assumes nothing.
+-- (`lgammaf_sign`), and every negative whole number is a pole (`lgammaf_pole`). Assumes nothing.
 use Rattle.std.proofs.Common.{◌≡◌, ℕ, ◌*◌, ◌%◌, ◌<◌, ◌≤◌, true, false, T, ℤ, pos, refl, le_of_lt, lit<, lit≤}
 use lib.Ieee.{Float, inf, fin, binary32, up, down, div, fits, to_bits, of_bits}
 use Rattle.words.proofs.CutLaws.{size_under, from_bits, upto_bits}

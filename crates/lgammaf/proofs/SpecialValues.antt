@@ -1,5 +1,5 @@
--- lgammaf_r at the values that ISO C's Annex F names, as `AnnexF` of lgamma/proofs/SpecialValues states them: `lgammaf-special`. (The poles, at every
--- negative whole number: `lgammaf-pole` of SignLaw.) Assumes nothing.
+-- lgammaf_r at the values that ISO C's Annex F names, as `AnnexF` of lgamma/proofs/SpecialValues states them: `lgammaf_special`. (The poles, at every
+-- negative whole number: `lgammaf_pole` of SignLaw.) Assumes nothing.
 use Rattle.std.proofs.Common.{◌<◌, pos, true, false, refl, lit<, lit≤}
 use lib.Ieee.{fin, binary32, fits, to_bits, of_bits}
 use Rattle.logarithm.proofs.SpecialValues.{log_zero}

@@ -6,7 +6,6 @@ use mathlib.Core.Logic.{inl, inr}
 use mathlib.Core.Bool.{Bool, true, false, not, cond}
 use Prim.Native.Nat.{ℕ, zero, suc, ◌+◌, ◌-◌, ◌*◌, ◌/◌, ◌%◌, ◌^◌, ◌<◌, ◌≤◌, zero-le, compare, Ordering}
 use native.Mathlib.Nat.{le_refl, le_trans, le_of_eq, eq-or-lt_of_le, eq-zero-or-pos, lt_of_le_of_lt, lt_of_lt_of_le, mod-lt, mod-eq_of_lt, mul-one, mul_comm, mul_assoc, mul_right_comm, mul-le-mul_right, mul-lt-mul_of_pos_right, mul-pos, mul-add-div_right, mul-add-mod_self_right, div-lt_iff_lt-mul, le-div_iff_mul-le, pow-succ', div-eq_of_lt, add-sub_of_le, add_comm, one-mul}
-use native.Mathlib.Numerals.{add-one}
 use native.Mathlib.Omega.{arith}
 use lib.Arith.{lt_of_le-ne, le-zero}
 use lib.Dec.{T, is_le, compare_is_eq, leb→le, nleb→lt, eqb→eq, eqb, eqb_refl, lit≤, lit<}
@@ -54,15 +53,9 @@ one_order a b Ordering.gt Ordering.eq x y = absurd (omega arith)
 closest_by : (d u : ℕ) (o : Ordering) → Is o (d % u * 2) u → nearest (d / u) o ≡ closest d u
 closest_by d u o h = ap (nearest (d / u)) (one_order (d % u * 2) u o (compare (d % u * 2) u) h (compared (d % u * 2) u))
 
--- ---- the code's three answers, with u for 2 ^ w
+-- ---- the code's unit, and its answer at a tie, with u for 2 ^ w
 pub shifted : (w : ℕ) → w < 64 → 1 * 2 ^ w % 2 ^ 64 ≡ 2 ^ w
 shifted w h = shl_exact 1 w 64 (lit< tt) (omega arith) ∙ one-mul (2 ^ w)
-
-pub to_lower : (d u w : ℕ) → u ≡ 2 ^ w → d % u < u / 2 → d / u ≡ closest d (2 ^ w)
-to_lower d u w e h = closest_by d u Ordering.lt (omega arith) ∙ ap (closest d) e
-
-pub to_upper : (d u w : ℕ) → u ≡ 2 ^ w → u / 2 < d % u → d / u + 1 ≡ closest d (2 ^ w)
-to_upper d u w e h = add-one (d / u) ∙ closest_by d u Ordering.gt (omega arith) ∙ ap (closest d) e
 
 pub to_even : (d u w : ℕ) → u ≡ 2 ^ w → 0 < w → u / 2 ≤ d % u → d % u ≤ u / 2 → d / u + d / u % 2 ≡ closest d (2 ^ w)
 to_even d u zero e p h k = absurd (omega arith)
@@ -70,15 +63,6 @@ to_even d u (suc v) e p h k = closest_by d u Ordering.eq (tie (2 ^ v) (e ∙ pow
   where
     tie : (H : ℕ) → u ≡ 2 * H → d % u * 2 ≡ u
     tie H e = omega arith
-
--- the same with no test, at 2 ^ 29
-pub at_29 : (d : ℕ) → (d + 0xfffffff + d / 2 ^ 29 % 2) / 2 ^ 29 ≡ closest d (2 ^ 29)
-at_29 d = go (d % 2 ^ 29 * 2) refl (compare (d % 2 ^ 29 * 2) (2 ^ 29)) (compared (d % 2 ^ 29 * 2) (2 ^ 29))
-  where
-    go : (t : ℕ) → t ≡ d % 2 ^ 29 * 2 → (o : Ordering) → Is o t (2 ^ 29) → (d + 0xfffffff + d / 2 ^ 29 % 2) / 2 ^ 29 ≡ nearest (d / 2 ^ 29) o
-    go t e Ordering.lt h = omega arith
-    go t e Ordering.eq h = omega arith
-    go t e Ordering.gt h = omega arith
 
 -- the quotient leaves room for one more
 pub quotient_lt : (d u w : ℕ) → u ≡ 2 ^ w → 0 < w → d < 2 ^ 64 → d / u < 2 ^ 63

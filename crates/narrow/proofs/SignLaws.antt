@@ -1,5 +1,5 @@
 -- Narrowing keeps the sign of all that has one, and makes no NaN of it: an answer that overflows is the infinity of its sign, and one that vanishes the
--- zero of its sign (`narrow_signed`). So the sign bit of every f64 stays (`narrow-sign`). What comes out is an f32 (`narrow-fits`). Assumes nothing.
+-- zero of its sign (`narrow_signed`). So the sign bit of every f64 stays (`narrow_sign`). What comes out is an f32 (`narrow_fits`). Assumes nothing.
 use mathlib.Core.Path.{◌≡◌, refl, sym, ◌∙◌, subst}
 use Prim.Native.Nat.{◌*◌}
 use mathlib.Core.Bool.{Bool}

@@ -1,5 +1,5 @@
--- In `exp2S`, for p_l and p_h of at most 900 in size together: the power of 2 that is left when n is taken off lies from 1/4 to 4, where
--- |z| is above 1/2 (`far-range`) and where it is not (`near-range`), and n is at most 902 (`n-le`). Assumes nothing.
+-- In `exp2_s`, for p_l and p_h of at most 900 in size together: the power of 2 that is left when n is taken off lies from 1/4 to 4, where
+-- |z| is above 1/2, and n at most 902 (`far_range`), and where |z| is not (`near_range`). Assumes nothing.
 use Prim.Native.Nat.{ℕ, ◌+◌, ◌*◌, ◌/◌, ◌%◌, ◌^◌, ◌≤◌, ◌<◌}
 use mathlib.Core.Path.{◌≡◌, refl, sym, subst}
 use mathlib.Core.Bool.{Bool, true, false}
@@ -110,90 +110,90 @@ room : (A B L : ℕ) → A + B ≤ 900 * L → A + B ≤ 4000 * L
 room A B L a = omega arith
 
 -- ---- p_l is ±A and p_h is ±B
-module _ (p·l p·h : Float) (s : Bool) (A : ℕ) (u : Bool) (B : ℕ) (vl : HasValue p·l s A (2 ^ 1074)) (vh : HasValue p·h u B (2 ^ 1074))
+module _ (p_l p_h : Float) (s : Bool) (A : ℕ) (u : Bool) (B : ℕ) (vl : HasValue p_l s A (2 ^ 1074)) (vh : HasValue p_h u B (2 ^ 1074))
     (small : A + B ≤ 900 * 2 ^ 1074) where
   fine : 2 ^ 1033 * 0x20000000000 ≤ 2 ^ 1074
   fine = le_of_eq (sym (pow-add 2 1033 41))
 
   -- z, of the sign w and Z units, of the pattern ±b and the high word j
-  module _ (w : Bool) (Z : ℕ) (vz : HasValue (p·l ⊕ p·h) w Z (2 ^ 1074)) (sum : NearSum w Z s A u B (2 ^ 1033))
-      (b : ℕ) (b_lt : b < 0x8000000000000000) (Z-is : Z ≡ bit_val binary64 b) (z-is : to_bits binary64 (p·l ⊕ p·h) ≡ signed w b) where
+  module _ (w : Bool) (Z : ℕ) (vz : HasValue (p_l ⊕ p_h) w Z (2 ^ 1074)) (sum : NearSum w Z s A u B (2 ^ 1033))
+      (b : ℕ) (b_lt : b < 0x8000000000000000) (Z_is : Z ≡ bit_val binary64 b) (z_is : to_bits binary64 (p_l ⊕ p_h) ≡ signed w b) where
     abbrev j : ℕ
-    j = high_word_s (p·l ⊕ p·h)
+    j = high_word_s (p_l ⊕ p_h)
 
-    Z-le : Z ≤ 901 * 2 ^ 1074
-    Z-le = z_room A B Z (2 ^ 1033) (2 ^ 1074) small (size_of_sum w Z s A u B (2 ^ 1033) sum) fine
+    Z_le : Z ≤ 901 * 2 ^ 1074
+    Z_le = z_room A B Z (2 ^ 1033) (2 ^ 1074) small (size_of_sum w Z s A u B (2 ^ 1033) sum) fine
 
     high : j % 0x80000000 ≤ 0x408F4000
     high =
-        let k : b < 0x408F400000000000 = pattern_lt b 0x408F400000000000 (lt_of_le_of_lt (subst (λ (m : ℕ). m ≤ 901 * 2 ^ 1074) Z-is Z-le) (lit< tt)) in
-        let d = word_digits (to_bits binary64 (p·l ⊕ p·h)) b b_lt w z-is in
+        let k : b < 0x408F400000000000 = pattern_lt b 0x408F400000000000 (lt_of_le_of_lt (subst (λ (m : ℕ). m ≤ 901 * 2 ^ 1074) Z_is Z_le) (lit< tt)) in
+        let d = word_digits (to_bits binary64 (p_l ⊕ p_h)) b b_lt w z_is in
         omega arith
 
     up : j % 0x80000000 ≤ 0x4090CC00
     up = omega (arith, high)
 
     t_value : 0x3FE00000 < j % 0x80000000 → HasValue (t_of_word j) w (amount j * 2 ^ 1074) (2 ^ 1074)
-    t_value low = go w z-is
+    t_value low = go w z_is
       where
-        go : (w : Bool) → to_bits binary64 (p·l ⊕ p·h) ≡ signed w b → HasValue (t_of_word j) w (amount j * 2 ^ 1074) (2 ^ 1074)
-        go false e = t_plus j low up (word_lt (to_bits binary64 (p·l ⊕ p·h)) b b_lt false e) (word_plus (to_bits binary64 (p·l ⊕ p·h)) b b_lt e)
-        go true e = t_minus j low up (word_lt (to_bits binary64 (p·l ⊕ p·h)) b b_lt true e) (word_minus (to_bits binary64 (p·l ⊕ p·h)) b b_lt e)
+        go : (w : Bool) → to_bits binary64 (p_l ⊕ p_h) ≡ signed w b → HasValue (t_of_word j) w (amount j * 2 ^ 1074) (2 ^ 1074)
+        go false e = t_plus j low up (word_lt (to_bits binary64 (p_l ⊕ p_h)) b b_lt false e) (word_plus (to_bits binary64 (p_l ⊕ p_h)) b b_lt e)
+        go true e = t_minus j low up (word_lt (to_bits binary64 (p_l ⊕ p_h)) b b_lt true e) (word_minus (to_bits binary64 (p_l ⊕ p_h)) b b_lt e)
 
-    far : 0x3FE00000 < j % 0x80000000 → In quarter four (fraction_s (p·h ⊖ t_of_word j) p·l) × (amount j ≤ 902)
+    far : 0x3FE00000 < j % 0x80000000 → In quarter four (fraction_s (p_h ⊖ t_of_word j) p_l) × (amount j ≤ 902)
     far low =
         let L = 2 ^ 1074 in
         let E = 2 ^ 1033 in
         let n = amount j * L in
         let D = 2 * last j in
         let t = t_of_word j in
-        let near = z_near j low up b (word_digits (to_bits binary64 (p·l ⊕ p·h)) b b_lt w z-is) in
-        let n-le : 2 * n ≤ 2 * Z + L = subst (λ (k : ℕ). 2 * n ≤ 2 * k + L) (sym Z-is) near.0 in
-        let Z-near : 2 * Z ≤ 2 * n + L + D = subst (λ (k : ℕ). 2 * k ≤ 2 * n + L + D) (sym Z-is) near.1 in
-        let r = n_room A B Z n E L small (size_of_sum w Z s A u B E sum) n-le fine in
-        let g = difference_near p·h t u B w n vh (t_value low) r.0 in
+        let near = z_near j low up b (word_digits (to_bits binary64 (p_l ⊕ p_h)) b b_lt w z_is) in
+        let n_le : 2 * n ≤ 2 * Z + L = subst (λ (k : ℕ). 2 * n ≤ 2 * k + L) (sym Z_is) near.0 in
+        let Z_near : 2 * Z ≤ 2 * n + L + D = subst (λ (k : ℕ). 2 * k ≤ 2 * n + L + D) (sym Z_is) near.1 in
+        let r = n_room A B Z n E L small (size_of_sum w Z s A u B E sum) n_le fine in
+        let g = difference_near p_h t u B w n vh (t_value low) r.0 in
         let G = g.1 in
         let q = g_room A B G n E L small r.1 (size_of_difference g.0 G u B w n E g.3) fine in
-        let a = sum_near p·l (p·h ⊖ t) s A g.0 G vl g.2 q.1 in
+        let a = sum_near p_l (p_h ⊖ t) s A g.0 G vl g.2 q.1 in
         let S = a.1 in
-        let c = same_sign w Z n L D n-le Z-near in
+        let c = same_sign w Z n L D n_le Z_near in
         let k =
         reduced_small (P s A) (N s A) (P u B) (N u B) (P w Z) (N w Z) (P w n) (N w n) (P g.0 G) (N g.0 G) (P a.0 S) (N a.0 S) E D L
         sum.0 sum.1 c.0 c.1 g.3.0 g.3.1 a.3.0 a.3.1 in
         let less = s_room S D E L (one_side a.0 S L D (3 * E) k.0 k.1) (slack j low up) fine in
-        let m = small_parts p·l (p·h ⊖ t) s A g.0 G a.0 S vl g.2 a.2 a.3 q.0 less in
-        (fraction_range (p·h ⊖ t) p·l m.0 m.1, le_of_mul-le-mul_right r.1 (pow_pos 1074))
+        let m = small_parts p_l (p_h ⊖ t) s A g.0 G a.0 S vl g.2 a.2 a.3 q.0 less in
+        (fraction_range (p_h ⊖ t) p_l m.0 m.1, le_of_mul-le-mul_right r.1 (pow_pos 1074))
 
-    near : j % 0x80000000 ≤ 0x3FE00000 → In quarter four (fraction_s p·h p·l)
+    near : j % 0x80000000 ≤ 0x3FE00000 → In quarter four (fraction_s p_h p_l)
     near i =
         let L = 2 ^ 1074 in
-        let d = word_digits (to_bits binary64 (p·l ⊕ p·h)) b b_lt w z-is in
-        let b-le : b ≤ 0x3FE0000100000000 = omega arith in
-        let Z-le : Z ≤ bit_val binary64 0x3FE0000100000000 = le_trans (le_of_eq Z-is) (val_le binary64 b 0x3FE0000100000000 b-le) in
-        let less : Z * 64 ≤ 33 * L = le_trans (mul-le-mul_right 64 Z-le) (le_of_lt (lit< tt)) in
-        let m = small_parts p·l p·h s A u B w Z vl vh vz sum (two-thousand A B L small) less in
-        fraction_range p·h p·l m.0 m.1
+        let d = word_digits (to_bits binary64 (p_l ⊕ p_h)) b b_lt w z_is in
+        let b_le : b ≤ 0x3FE0000100000000 = omega arith in
+        let Z_le : Z ≤ bit_val binary64 0x3FE0000100000000 = le_trans (le_of_eq Z_is) (val_le binary64 b 0x3FE0000100000000 b_le) in
+        let less : Z * 64 ≤ 33 * L = le_trans (mul-le-mul_right 64 Z_le) (le_of_lt (lit< tt)) in
+        let m = small_parts p_l p_h s A u B w Z vl vh vz sum (two_thousand A B L small) less in
+        fraction_range p_h p_l m.0 m.1
       where
-        two-thousand : (A B L : ℕ) → A + B ≤ 900 * L → A + B ≤ 2000 * L
-        two-thousand A B L h = omega arith
+        two_thousand : (A B L : ℕ) → A + B ≤ 900 * L → A + B ≤ 2000 * L
+        two_thousand A B L h = omega arith
 
   abbrev word : ℕ
-  word = high_word_s (p·l ⊕ p·h)
+  word = high_word_s (p_l ⊕ p_h)
 
-  z_sum : (w : Bool) × (Z : ℕ) × HasValue (p·l ⊕ p·h) w Z (2 ^ 1074) × NearSum w Z s A u B (2 ^ 1033)
-  z_sum = sum_near p·l p·h s A u B vl vh (room A B (2 ^ 1074) small)
+  z_sum : (w : Bool) × (Z : ℕ) × HasValue (p_l ⊕ p_h) w Z (2 ^ 1074) × NearSum w Z s A u B (2 ^ 1033)
+  z_sum = sum_near p_l p_h s A u B vl vh (room A B (2 ^ 1074) small)
 
-  z_bits : (b : ℕ) × (b < 0x8000000000000000) × (z_sum.1 ≡ bit_val binary64 b) × (to_bits binary64 (p·l ⊕ p·h) ≡ signed z_sum.0 b)
-  z_bits = size_bits (p·l ⊕ p·h) z_sum.0 z_sum.1 (add-fits binary64 p·l p·h) z_sum.2
+  z_bits : (b : ℕ) × (b < 0x8000000000000000) × (z_sum.1 ≡ bit_val binary64 b) × (to_bits binary64 (p_l ⊕ p_h) ≡ signed z_sum.0 b)
+  z_bits = size_bits (p_l ⊕ p_h) z_sum.0 z_sum.1 (add-fits binary64 p_l p_h) z_sum.2
 
   pub word_high : word % 0x80000000 ≤ 0x408F4000
   word_high = high z_sum.0 z_sum.1 z_sum.2 z_sum.3 z_bits.0 z_bits.1 z_bits.2 z_bits.3
 
   pub word_under : word < 0x100000000
-  word_under = word_lt (to_bits binary64 (p·l ⊕ p·h)) z_bits.0 z_bits.1 z_sum.0 z_bits.3
+  word_under = word_lt (to_bits binary64 (p_l ⊕ p_h)) z_bits.0 z_bits.1 z_sum.0 z_bits.3
 
-  pub far_range : 0x3FE00000 < word % 0x80000000 → In quarter four (fraction_s (p·h ⊖ t_of_word word) p·l) × (amount word ≤ 902)
+  pub far_range : 0x3FE00000 < word % 0x80000000 → In quarter four (fraction_s (p_h ⊖ t_of_word word) p_l) × (amount word ≤ 902)
   far_range = far z_sum.0 z_sum.1 z_sum.2 z_sum.3 z_bits.0 z_bits.1 z_bits.2 z_bits.3
 
-  pub near_range : word % 0x80000000 ≤ 0x3FE00000 → In quarter four (fraction_s p·h p·l)
+  pub near_range : word % 0x80000000 ≤ 0x3FE00000 → In quarter four (fraction_s p_h p_l)
   near_range = near z_sum.0 z_sum.1 z_sum.2 z_sum.3 z_bits.0 z_bits.1 z_bits.2 z_bits.3

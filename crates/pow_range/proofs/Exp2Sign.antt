@@ -1,4 +1,4 @@
--- `exp2S` with the sign 1 is no NaN and carries no minus sign, for p_l and p_h of at most 900 in size together: `exp2-plus`. Assumes nothing.
+-- `exp2_s` with the sign 1 is no NaN and carries no minus sign, for p_l and p_h of at most 900 in size together: `exp2_plus`. Assumes nothing.
 use Prim.Native.Nat.{ℕ, zero, suc, ◌+◌, ◌-◌, ◌*◌, ◌%◌, ◌^◌, ◌≤◌, ◌<◌, zero-le}
 use mathlib.Core.Path.{◌≡◌, refl, sym, subst}
 use mathlib.Core.Bool.{Bool, true, false}
@@ -119,49 +119,49 @@ one_value = (refl, refl)
 times_one : (z : Float) (n : ℤ) → (Y : ℕ) × HasValue (scaled_s z n) false Y (2 ^ 1074) → Signed false (one ⊗ scaled_s z n)
 times_one z n y = mul_plus one (scaled_s z n) (2 ^ 1074) y.0 one_value y.1
 
-module _ (p·l p·h : Float) (s : Bool) (A : ℕ) (u : Bool) (B : ℕ) (vl : HasValue p·l s A (2 ^ 1074)) (vh : HasValue p·h u B (2 ^ 1074))
+module _ (p_l p_h : Float) (s : Bool) (A : ℕ) (u : Bool) (B : ℕ) (vl : HasValue p_l s A (2 ^ 1074)) (vh : HasValue p_h u B (2 ^ 1074))
     (small : A + B ≤ 900 * 2 ^ 1074) where
   abbrev j : ℕ
-  j = high_word_s (p·l ⊕ p·h)
+  j = high_word_s (p_l ⊕ p_h)
 
-  near_plus : leb (j % 0x80000000) 0x3FE00000 ≡ true → Signed false (exp2_s one p·h p·l j)
+  near_plus : leb (j % 0x80000000) 0x3FE00000 ≡ true → Signed false (exp2_s one p_h p_l j)
   near_plus e =
       let h = leb-true (j % 0x80000000) 0x3FE00000 e in
-      let i = near_range p·l p·h s A u B vl vh small h in
-      rw (exp2_near one p·h p·l j h) (times_one (fraction_s p·h p·l) (pos 0) (scaled_up (fraction_s p·h p·l) (fraction_fits p·h p·l) i 0 (zero-le)))
+      let i = near_range p_l p_h s A u B vl vh small h in
+      rw (exp2_near one p_h p_l j h) (times_one (fraction_s p_h p_l) (pos 0) (scaled_up (fraction_s p_h p_l) (fraction_fits p_h p_l) i 0 (zero-le)))
 
-  far_plus : leb (j % 0x80000000) 0x3FE00000 ≡ false → (t : Bool) → leb 0x80000000 j ≡ t → Signed false (exp2_s one p·h p·l j)
+  far_plus : leb (j % 0x80000000) 0x3FE00000 ≡ false → (t : Bool) → leb 0x80000000 j ≡ t → Signed false (exp2_s one p_h p_l j)
   far_plus e t f = go t f
     where
       low : 0x3FE00000 < j % 0x80000000
       low = leb-false (j % 0x80000000) 0x3FE00000 e
 
       up : j % 0x80000000 ≤ 0x4090CC00
-      up = omega (arith, word_high p·l p·h s A u B vl vh small)
+      up = omega (arith, word_high p_l p_h s A u B vl vh small)
 
-      d-is : below j ≡ 20 - (field j - 0x3FF)
-      d-is = below_is j low up (word_under p·l p·h s A u B vl vh small)
+      d_is : below j ≡ 20 - (field j - 0x3FF)
+      d_is = below_is j low up (word_under p_l p_h s A u B vl vh small)
 
       z : Float
-      z = fraction_s (p·h ⊖ t_of_word j) p·l
+      z = fraction_s (p_h ⊖ t_of_word j) p_l
 
       r : In quarter four z × (amount j ≤ 902)
-      r = far_range p·l p·h s A u B vl vh small low
+      r = far_range p_l p_h s A u B vl vh small low
 
       F : T (fits binary64 z)
-      F = fraction_fits (p·h ⊖ t_of_word j) p·l
+      F = fraction_fits (p_h ⊖ t_of_word j) p_l
 
-      go : (t : Bool) → leb 0x80000000 j ≡ t → Signed false (exp2_s one p·h p·l j)
+      go : (t : Bool) → leb 0x80000000 j ≡ t → Signed false (exp2_s one p_h p_l j)
       go false f =
-          subst (Signed false) (rounded_up one p·h p·l j (below j) (t_of_word j) z _ low d-is refl refl (leb-false 0x80000000 j f) refl)
+          subst (Signed false) (rounded_up one p_h p_l j (below j) (t_of_word j) z _ low d_is refl refl (leb-false 0x80000000 j f) refl)
           (times_one z (pos (amount j)) (scaled_up z F r.0 (amount j) r.1))
       go true f =
-          subst (Signed false) (rounded_down one p·h p·l j (below j) (t_of_word j) z _ low d-is refl refl (leb-true 0x80000000 j f) refl)
+          subst (Signed false) (rounded_down one p_h p_l j (below j) (t_of_word j) z _ low d_is refl refl (leb-true 0x80000000 j f) refl)
           (times_one z (neg_ℤ (pos (amount j))) (scaled_down z F r.0 (amount j) r.1))
 
-  pub exp2_plus : Signed false (exp2_s one p·h p·l (high_word_s (p·l ⊕ p·h)))
+  pub exp2_plus : Signed false (exp2_s one p_h p_l (high_word_s (p_l ⊕ p_h)))
   exp2_plus = go (leb (j % 0x80000000) 0x3FE00000) refl
     where
-      go : (t : Bool) → leb (j % 0x80000000) 0x3FE00000 ≡ t → Signed false (exp2_s one p·h p·l (high_word_s (p·l ⊕ p·h)))
+      go : (t : Bool) → leb (j % 0x80000000) 0x3FE00000 ≡ t → Signed false (exp2_s one p_h p_l (high_word_s (p_l ⊕ p_h)))
       go true e = near_plus e
       go false e = far_plus e (leb 0x80000000 j) refl

@@ -1,4 +1,4 @@
--- 2 ** (p_h + p_l), after n is taken off, lies from 1/4 to 4: `fraction-range`. By intervals. Assumes nothing.
+-- 2 ** (p_h + p_l), after n is taken off, lies from 1/4 to 4: `fraction_range`. By intervals. Assumes nothing.
 use mathlib.Core.Path.{subst}
 use mathlib.Core.Bool.{false}
 use mathlib.Core.List.{[], ◌∷◌}
@@ -29,11 +29,11 @@ fraction_test : T (halved_test 5 binary64 quarter four fraction_e (some (neg sli
 unfolding halved_test ieval horner_e add sub mul div le neg of_bits
 fraction_test = tt
 
-pub fraction_range : (p·h p·l : Float) → In (neg bound) bound (t_of p·h p·l) → In (neg slight) slight (e_of p·h p·l) → In quarter four (fraction_s p·h p·l)
+pub fraction_range : (p_h p_l : Float) → In (neg bound) bound (t_of p_h p_l) → In (neg slight) slight (e_of p_h p_l) → In quarter four (fraction_s p_h p_l)
 unfolding neg
-fraction_range p·h p·l i k =
-    let t = t_of p·h p·l in
+fraction_range p_h p_l i k =
+    let t = t_of p_h p_l in
     let T = between_finite (neg bound) t bound tt tt i.0 i.1 in
-    subst (In quarter four) (fraction_is p·h p·l)
-    (halved 5 binary64 quarter four fraction_e (some (neg slight) slight ∷ []) (e_of p·h p·l ∷ []) (neg bound) bound t T fraction_test
+    subst (In quarter four) (fraction_is p_h p_l)
+    (halved 5 binary64 quarter four fraction_e (some (neg slight) slight ∷ []) (e_of p_h p_l ∷ []) (neg bound) bound t T fraction_test
     ((tt, tt, k.0, k.1), tt) i)

@@ -1,4 +1,4 @@
--- The logarithm's parts t1 and t2 by intervals, on cells of the high word: `cells-range`. Assumes nothing.
+-- The logarithm's parts t1 and t2 by intervals, on cells of the high word: `cells_range`. Assumes nothing.
 use Prim.Native.Nat.{ℕ, zero, suc, ◌+◌, ◌*◌, ◌/◌, ◌^◌, ◌≤◌, ◌<◌}
 use mathlib.Core.Path.{◌≡◌, refl, ap, ◌∙◌, subst}
 use mathlib.Core.Bool.{Bool, true, false}
@@ -67,10 +67,10 @@ cells_range e K t lo hi d (suc c) w ix l h F R a b k m n =
     q = both (cell e K t lo hi w (w + d)) (cells e K t lo hi d c (w + d)) h
 
     next : w + suc c * d ≡ w + d + c * d
-    next = ap (λ (z : ℕ). w + z) (succ-mul' c d) ∙ group w d (c * d)
+    next = ap (λ (z : ℕ). w + z) (succ_mul' c d) ∙ group w d (c * d)
       where
-        succ-mul' : (c d : ℕ) → suc c * d ≡ d + c * d
-        succ-mul' c d = suc-mul c d ∙ add_comm (c * d) d
+        succ_mul' : (c d : ℕ) → suc c * d ≡ d + c * d
+        succ_mul' c d = suc-mul c d ∙ add_comm (c * d) d
 
         group : (a b c : ℕ) → a + (b + c) ≡ a + b + c
         group a b c = omega arith

@@ -1,4 +1,4 @@
--- t1 lies from -8 to 8 and t2 from -1 to 1, for an x whose high word is from 0x40100000 to 0x4067C000: `log-range`. Assumes nothing.
+-- t1 lies from -8 to 8 and t2 from -1 to 1, for an x whose high word is from 0x40100000 to 0x4067C000: `log_range`. Assumes nothing.
 use Prim.Native.Nat.{ℕ, ◌+◌, ◌-◌, ◌*◌, ◌/◌, ◌%◌, ◌≤◌, ◌<◌}
 use mathlib.Core.Path.{◌≡◌, refl, sym, ap, ◌∙◌, subst}
 use mathlib.Core.Bool.{Bool, true, false}

@@ -1,4 +1,4 @@
--- n and z as numbers of the smallest unit, of which 2 ^ 1074 are 1: `z-near` says that n is within 1/2 and `slack` of z, and `n-value`
+-- n and z as numbers of the smallest unit, of which 2 ^ 1074 are 1: `z_near` says that n is within 1/2 and `slack` of z, and `t_plus` and `t_minus`
 -- that the float t is n. Assumes nothing.
 use Prim.Native.Nat.{ℕ, suc, ◌+◌, ◌-◌, ◌*◌, ◌/◌, ◌%◌, ◌^◌, ◌≤◌, ◌<◌}
 use mathlib.Core.Bool.{true, false}
@@ -123,7 +123,7 @@ module _ (j : ℕ) (low : 0x3FE00000 < j % 0x80000000) (high : j % 0x80000000 �
   unfolding pattern
   pattern_value =
       let f_ge = field_ge j low high word in
-      let f-le = field_le j low high word in
+      let f_le = field_le j low high word in
       let sum : below j + field j ≡ 0x413 = omega arith in
       let p : 0 < field j = omega arith in
       subst (λ (k : ℕ). HasValue (of_bits binary64 (pattern j)) false k (2 ^ 1074))

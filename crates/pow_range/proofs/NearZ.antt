@@ -1,5 +1,5 @@
 -- n = [z + 0.5], as `pow_exp::exp2` takes it from the high word i of z's size, is near z. In the digits of i a unit of n is 2 h, and
--- z, cut to its high word, is M: `n-near` says that n units are within h of M. Assumes nothing.
+-- z, cut to its high word, is M: `n_near` says that n units are within h of M. Assumes nothing.
 use Prim.Native.Nat.{ℕ, ◌+◌, ◌-◌, ◌*◌, ◌/◌, ◌%◌, ◌^◌, ◌≤◌, ◌<◌}
 use mathlib.Core.Path.{◌≡◌, refl, sym, ap, ◌∙◌, subst}
 use mathlib.Core.Bool.{Bool, true, false}

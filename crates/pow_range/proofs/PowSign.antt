@@ -1,4 +1,4 @@
--- pow is no NaN and carries no minus sign, for a base from 5.5 to 190 and an exponent from -92 to 92: `pow-plus`. Assumes nothing.
+-- pow is no NaN and carries no minus sign, for a base from 5.5 to 190 and an exponent from -92 to 92: `pow_plus`. Assumes nothing.
 use Prim.Native.Nat.{ℕ, ◌+◌, ◌*◌, ◌%◌, ◌^◌, ◌≤◌, ◌<◌}
 use mathlib.Core.Path.{refl, sym, subst}
 use mathlib.Core.Bool.{true, false, false≢true}

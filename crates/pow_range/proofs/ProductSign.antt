@@ -1,5 +1,5 @@
--- `productS` with the sign 1 is no NaN and carries no minus sign, for a y of at most 92 in size, t1 of at most 8 and t2 of at most 1:
--- `product-plus`. Assumes nothing.
+-- `product_s` with the sign 1 is no NaN and carries no minus sign, for a y of at most 92 in size, t1 of at most 8 and t2 of at most 1:
+-- `product_plus`. Assumes nothing.
 use Prim.Native.Nat.{ℕ, ◌+◌, ◌-◌, ◌*◌, ◌^◌, ◌≤◌}
 use mathlib.Core.Path.{refl, sym, subst}
 use mathlib.Core.Bool.{Bool, true, false}
@@ -79,19 +79,19 @@ module _ (y : Float) (F : T (fits binary64 y)) (i : In (neg ninety_two) ninety_t
       let vc : HasValue y1 s C L = subst (λ (z : Float). HasValue z s C L) (sym (low_cleared y)) c.1 in
       let d = difference_near y y1 s Y s C v.2 vc (small_sum Y C L v.3 c.2.0) in
       let D = d.1 in
-      let D-le = of_one_sign d.0 D s Y C E c.2.0 d.3 in (
+      let D_le = of_one_sign d.0 D s Y C E c.2.0 d.3 in (
         s,
         C,
         vc,
         le_trans c.2.0 v.3,
-        within (y ⊖ y1) slight d.0 D L 1 1024 (pow_pos 1074) (lit< tt) d.2 (refl, refl) (slight_rest Y C D E L 0x10000000000000 v.3 c.2.0 c.2.1 D-le fine (le_of_lt (lit< tt))),
+        within (y ⊖ y1) slight d.0 D L 1 1024 (pow_pos 1074) (lit< tt) d.2 (refl, refl) (slight_rest Y C D E L 0x10000000000000 v.3 c.2.0 c.2.1 D_le fine (le_of_lt (lit< tt))),
       )
 
   y1_in : In (neg ninety_two) ninety_two y1
-  y1_in = let k = split in within y1 ninety_two k.0 k.1 (2 ^ 1074) 92 1 (pow_pos 1074) (lit< tt) k.2 (refl, refl) (one-times k.1 (92 * 2 ^ 1074) k.3)
+  y1_in = let k = split in within y1 ninety_two k.0 k.1 (2 ^ 1074) 92 1 (pow_pos 1074) (lit< tt) k.2 (refl, refl) (one_times k.1 (92 * 2 ^ 1074) k.3)
     where
-      one-times : (a b : ℕ) → a ≤ b → a * 1 ≤ b
-      one-times a b h = omega arith
+      one_times : (a b : ℕ) → a ≤ b → a * 1 ≤ b
+      one_times a b h = omega arith
 
 -- ---- p_h and p_l
 
@@ -129,10 +129,10 @@ sum_le A B L a b = omega arith
 pub product_plus : (y : Float) (t : Parts) → T (fits binary64 y) → In (neg ninety_two) ninety_two y → In (neg eight) eight t.t1 → In (neg one1) one1 t.t2
     → Signed false (product_s one y t)
 product_plus y t F i j k =
-    let p·l = low_of y t in
-    let p·h = high_of y t in
-    let a = in_units p·l hundred 100 (refl, refl) (add-fits binary64 ((y ⊖ with_low_word_s y 0) ⊗ t.t1) (y ⊗ t.t2)) (p_l_in y t.t1 t.t2 F i j k) in
-    let b = in_units p·h wide 750 (refl, refl) (mul-fits binary64 (with_low_word_s y 0) t.t1) (p_h_in y t.t1 t.t2 F i j k) in
+    let p_l = low_of y t in
+    let p_h = high_of y t in
+    let a = in_units p_l hundred 100 (refl, refl) (add-fits binary64 ((y ⊖ with_low_word_s y 0) ⊗ t.t1) (y ⊗ t.t2)) (p_l_in y t.t1 t.t2 F i j k) in
+    let b = in_units p_h wide 750 (refl, refl) (mul-fits binary64 (with_low_word_s y 0) t.t1) (p_h_in y t.t1 t.t2 F i j k) in
     let small = sum_le a.1 b.1 (2 ^ 1074) a.3 b.3 in
-    let w = word_high p·l p·h a.0 a.1 b.0 b.1 a.2 b.2 small in
-    subst (Signed false) (sym (product_within one y t (lt_of_le_of_lt w (lit< tt)))) (exp2_plus p·l p·h a.0 a.1 b.0 b.1 a.2 b.2 small)
+    let w = word_high p_l p_h a.0 a.1 b.0 b.1 a.2 b.2 small in
+    subst (Signed false) (sym (product_within one y t (lt_of_le_of_lt w (lit< tt)))) (exp2_plus p_l p_h a.0 a.1 b.0 b.1 a.2 b.2 small)

@@ -1,5 +1,5 @@
 -- The sum of two values p_l and g of at most 2048 in size, where it is at most 1/2 and a little in size: its upper word's value t and
--- what that leaves, e, are as small as `fraction-range` wants them: `small-parts`. Linear in the smallest unit. Assumes nothing.
+-- what that leaves, e, are as small as `fraction_range` wants them: `small_parts`. Linear in the smallest unit. Assumes nothing.
 use Prim.Native.Nat.{ℕ, ◌+◌, ◌-◌, ◌*◌, ◌/◌, ◌^◌, ◌≤◌}
 use mathlib.Core.Path.{◌≡◌, refl, sym, subst}
 use mathlib.Core.Bool.{Bool, true, false}
@@ -36,13 +36,13 @@ cut_plus m e X F v =
     let b = to_bits binary64 x in
     let c = b / 2 ^ 32 * 2 ^ 32 in
     let under = to_bits_under binary64 m e F in
-    let c-le : c ≤ b = div-mul-le_self b (2 ^ 32) in
+    let c_le : c ≤ b = div-mul-le_self b (2 ^ 32) in
     let vb = bits_val binary64 b under in
     let is : X ≡ bit_val binary64 b = value_unique x false false X (bit_val binary64 b) (2 ^ 1074) v (subst (λ (z : Float). HasValue z false (bit_val binary64 b) (2 ^ 1074)) (of_bits-to_bits binary64 x F) vb) in
     let near = cut_near binary64 b 32 (le_of_lt (lit< tt)) in (
       bit_val binary64 c,
-      subst (λ (z : Float). HasValue z false (bit_val binary64 c) (2 ^ 1074)) (sym (cut_is binary64 32 x)) (bits_val binary64 c (lt_of_le_of_lt c-le under)),
-      subst (λ (k : ℕ). CutTo k (bit_val binary64 c)) (sym is) (val_le binary64 c b c-le, near),
+      subst (λ (z : Float). HasValue z false (bit_val binary64 c) (2 ^ 1074)) (sym (cut_is binary64 32 x)) (bits_val binary64 c (lt_of_le_of_lt c_le under)),
+      subst (λ (k : ℕ). CutTo k (bit_val binary64 c)) (sym is) (val_le binary64 c b c_le, near),
     )
 
 pub cut_value : (x : Float) (s : Bool) (X : ℕ) → T (fits binary64 x) → HasValue x s X (2 ^ 1074)
@@ -83,21 +83,21 @@ slight_enough : (S C R E L H : ℕ) → 2 * R ≤ 2 * (S - C) + 3 * E → C ≤ 
 slight_enough S C R E L H a b c d e f = omega arith
 
 -- p_l + g = s, which is at most 33/64 in size
-module _ (p·l g : Float) (s : Bool) (A : ℕ) (v : Bool) (G : ℕ) (w : Bool) (S : ℕ)
-    (vp : HasValue p·l s A (2 ^ 1074)) (vg : HasValue g v G (2 ^ 1074)) (vs : HasValue (add binary64 p·l g) w S (2 ^ 1074))
+module _ (p_l g : Float) (s : Bool) (A : ℕ) (v : Bool) (G : ℕ) (w : Bool) (S : ℕ)
+    (vp : HasValue p_l s A (2 ^ 1074)) (vg : HasValue g v G (2 ^ 1074)) (vs : HasValue (add binary64 p_l g) w S (2 ^ 1074))
     (sum : NearSum w S s A v G (2 ^ 1033)) (small : A + G ≤ 2000 * 2 ^ 1074) (less : S * 64 ≤ 33 * 2 ^ 1074) where
-  pub small_parts : In (neg bound) bound (t_of g p·l) × In (neg slight) slight (e_of g p·l)
+  pub small_parts : In (neg bound) bound (t_of g p_l) × In (neg slight) slight (e_of g p_l)
   small_parts =
       let L = 2 ^ 1074 in
       let E = 2 ^ 1033 in
       let fine : E * 0x20000000000 ≤ L = le_of_eq (sym (pow-add 2 1033 41)) in
-      let c = cut_value (add binary64 p·l g) w S (add-fits binary64 p·l g) vs in
+      let c = cut_value (add binary64 p_l g) w S (add-fits binary64 p_l g) vs in
       let C = c.0 in
-      let vt : HasValue (t_of g p·l) w C L = subst (λ (z : Float). HasValue z w C L) (sym (low_cleared (add binary64 p·l g))) c.1 in
-      let d = difference_near (t_of g p·l) g w C v G vt vg (room A G S C L small less c.2.0) in
+      let vt : HasValue (t_of g p_l) w C L = subst (λ (z : Float). HasValue z w C L) (sym (low_cleared (add binary64 p_l g))) c.1 in
+      let d = difference_near (t_of g p_l) g w C v G vt vg (room A G S C L small less c.2.0) in
       let D = d.1 in
-      let D-le = size_of_difference d.0 D w C v G E d.3 in
-      let r = difference_near p·l (sub binary64 (t_of g p·l) g) s A d.0 D vp d.2 (room_2 A G S C D E L small less c.2.0 D-le fine) in
+      let D_le = size_of_difference d.0 D w C v G E d.3 in
+      let r = difference_near p_l (sub binary64 (t_of g p_l) g) s A d.0 D vp d.2 (room_2 A G S C D E L small less c.2.0 D_le fine) in
       let R = r.1 in
       let y = r.0 in
       let K = S - C in
@@ -105,9 +105,9 @@ module _ (p·l g : Float) (s : Bool) (A : ℕ) (v : Bool) (G : ℕ) (w : Bool) (
       let l =
       left_over (P s A) (N s A) (P v G) (N v G) (P w S) (N w S) (P w C) (N w C) (P d.0 D) (N d.0 D) (P y R) (N y R) E K
       sum.0 sum.1 k.0 k.1 d.3.0 d.3.1 r.3.0 r.3.1 in
-      let R-le : 2 * R ≤ 2 * K + 3 * E = one_side y R (2 * K + 3 * E) (group (2 * P y R) (2 * N y R) (2 * K) (3 * E) l.0) (group (2 * N y R) (2 * P y R) (2 * K) (3 * E) l.1) in (
-        within (t_of g p·l) bound w C L 33 64 (pow_pos 1074) (lit< tt) vt (refl, refl) (cut-less C S L less c.2.0),
-        within (e_of g p·l) slight y R L 1 1024 (pow_pos 1074) (lit< tt) r.2 (refl, refl) (slight_enough S C R E L 0x10000000000000 R-le c.2.0 c.2.1 less fine (le_of_lt (lit< tt))),
+      let R_le : 2 * R ≤ 2 * K + 3 * E = one_side y R (2 * K + 3 * E) (group (2 * P y R) (2 * N y R) (2 * K) (3 * E) l.0) (group (2 * N y R) (2 * P y R) (2 * K) (3 * E) l.1) in (
+        within (t_of g p_l) bound w C L 33 64 (pow_pos 1074) (lit< tt) vt (refl, refl) (cut_less C S L less c.2.0),
+        within (e_of g p_l) slight y R L 1 1024 (pow_pos 1074) (lit< tt) r.2 (refl, refl) (slight_enough S C R E L 0x10000000000000 R_le c.2.0 c.2.1 less fine (le_of_lt (lit< tt))),
       )
     where
       under : (S C : ℕ) → C ≤ S → S ≤ C + (S - C)
@@ -116,5 +116,5 @@ module _ (p·l g : Float) (s : Bool) (A : ℕ) (v : Bool) (G : ℕ) (w : Bool) (
       group : (a b c d : ℕ) → a ≤ b + c + d → a ≤ b + (c + d)
       group a b c d h = omega arith
 
-      cut-less : (C S L : ℕ) → S * 64 ≤ 33 * L → C ≤ S → C * 64 ≤ 33 * L
-      cut-less C S L a b = omega arith
+      cut_less : (C S L : ℕ) → S * 64 ≤ 33 * L → C ≤ S → C * 64 ≤ 33 * L
+      cut_less C S L a b = omega arith

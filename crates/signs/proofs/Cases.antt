@@ -1,7 +1,7 @@
 -- A gamma function and a log-gamma by the sign and the whole part of a finite x that is no negative whole number: both have one sign, minus exactly where
 -- x carries a minus sign and the whole part of its size is even (`Case`). So it is with tgamma and lgamma_r (`case`), and in f32 with tgammaf and
--- lgammaf_r, and with tgammaf and lgamma_r (`case-f32`, `case-wide`). What that says of sign bits and of the numbers reported, over the format, is the
--- theorem (`FromCases`), with what is shown at the poles (`poles-of`). Assumes nothing.
+-- lgammaf_r, and with tgammaf and lgamma_r (`case_f32`, `case_wide`). What that says of sign bits and of the numbers reported, over the format, is the
+-- theorem (`FromCases`), with what is shown at the poles (`poles_of`). Assumes nothing.
 use mathlib.Core.Path.{◌≡◌, refl, sym, ap, ◌∙◌, subst}
 use mathlib.Core.Logic.{◌⊎◌, inl, inr}
 use mathlib.Core.List.{[]}
@@ -115,7 +115,7 @@ case_f32 x F f n =
     record { sign = c.sign; gamma = c.gamma; log = same_sign x F ∙ c.log; minus = c.minus; only = c.only }
 
 -- ---- what the cases say, in either format
-module _ (f : Format) (g : Float → Float) (l : Float → Answer) (g-fits : (x : Float) → T (fits f (g x)))
+module _ (f : Format) (g : Float → Float) (l : Float → Answer) (g_fits : (x : Float) → T (fits f (g x)))
     (cases : (x : Float) → T (fits f x) → Finite x → (NegativeWhole x → ⊥) → Case g l x) where
   pub record FromCases : Type 0 where
     pub no_nan : NoNan f g
@@ -123,7 +123,7 @@ module _ (f : Format) (g : Float → Float) (l : Float → Answer) (g-fits : (x 
     pub sign_rule : SignRule f g
 
   gamma_bit : (x : Float) (c : Case g l x) → sign_s f (g x) ≡ cond c.sign 1 0
-  gamma_bit x c = signed_bit f c.sign (g x) (g-fits x) c.gamma
+  gamma_bit x c = signed_bit f c.sign (g x) (g_fits x) c.gamma
 
   pub from_cases : FromCases
   from_cases = record {

@@ -1,5 +1,5 @@
 -- tgamma's correction r + dy (GMHALF + 0.5) r / y, where y is x + GMHALF and dy the error of that sum:
---   `dy-range`: dy is at most 2 ^ -10 in size, for x from 2 ^ -54 to 184; `factor-range`: so dy (GMHALF + 0.5) is at most 1 in size;
+--   `dy_range`: dy is at most 2 ^ -10 in size, for x from 2 ^ -54 to 184; `factor_range`: so dy (GMHALF + 0.5) is at most 1 in size;
 --   `corrected`: r + c r / y is above zero for an r above zero, a c of at most 1 in size and a y from 4 on, over the format;
 --   `correction`: for an r of either sign from 2 ^ -600 to 2 ^ 600 in size it has r's sign, is finite and no zero.
 -- Assumes nothing.
@@ -68,11 +68,11 @@ rest_slight y a b u Y s A t B vy va vb sum small =
     let L = 2 ^ 1074 in
     let E = 2 ^ 1033 in
     let fine : E * 0x20000000000 ≤ L = le_of_eq (sym (pow-add 2 1033 41)) in
-    let Y-le = size_of_sum u Y s A t B E sum in
-    let d = difference_near y a u Y s A vy va (room A B Y E L small Y-le fine) in
+    let Y_le = size_of_sum u Y s A t B E sum in
+    let d = difference_near y a u Y s A vy va (room A B Y E L small Y_le fine) in
     let D = d.1 in
-    let D-le = size_of_difference d.0 D u Y s A E d.3 in
-    let r = difference_near (y ⊖ a) b d.0 D t B d.2 vb (room_2 A B Y D E L small Y-le D-le fine) in
+    let D_le = size_of_difference d.0 D u Y s A E d.3 in
+    let r = difference_near (y ⊖ a) b d.0 D t B d.2 vb (room_2 A B Y D E L small Y_le D_le fine) in
     let R = r.1 in
     let k =
     left_over (P s A) (N s A) (P t B) (N t B) (P u Y) (N u Y) (P d.0 D) (N d.0 D) (P r.0 R) (N r.0 R) E

@@ -1,12 +1,12 @@
 -- THE THEOREM about the C entries themselves. r is any answer that the contract of `rvt_tgamma` allows for the argument `a.0`, a number of 64 bits, and
--- g any that the contract of `rvt_lgamma_r_sign` allows for the same. g is 1 or -1, whatever the argument is (`entries-report`). Where that is the pattern
--- of a finite number that is no negative whole number, r is no NaN's pattern, and its sign bit is set exactly where g is -1 (`entries-agree`), which is
--- exactly where the argument's sign bit is set and the whole part of its size is even (`entries-rule`). At a negative whole number r is the NaN's pattern
--- and g is 1 (`entries-at-poles`). The f32 entry `rvt_lgammaf_r_sign` answers what `rvt_lgamma_r_sign` answers for the same number (`single-entry-agrees`),
--- so 1 or -1 too (`single-entry-reports`), whatever it is. Where the 32 bits are those of a finite number that is no negative whole number, an answer of
--- `rvt_tgammaf` is no NaN's pattern, and its sign bit is set exactly where `rvt_lgammaf_r_sign` answers -1 for the same bits (`single-entries-agree`), and
--- where `rvt_lgamma_r_sign` does for the same number (`wide-entry-agrees`), by the same rule (`single-entries-rule`). At a negative whole number it is the
--- NaN's pattern (`single-entries-at-poles`). Assumes nothing.
+-- g any that the contract of `rvt_lgamma_r_sign` allows for the same. g is 1 or -1, whatever the argument is (`entries_report`). Where that is the pattern
+-- of a finite number that is no negative whole number, r is no NaN's pattern, and its sign bit is set exactly where g is -1 (`entries_agree`), which is
+-- exactly where the argument's sign bit is set and the whole part of its size is even (`entries_rule`). At a negative whole number r is the NaN's pattern
+-- and g is 1 (`entries_at_poles`). The f32 entry `rvt_lgammaf_r_sign` answers what `rvt_lgamma_r_sign` answers for the same number (`single_entry_agrees`),
+-- so 1 or -1 too (`single_entry_reports`), whatever it is. Where the 32 bits are those of a finite number that is no negative whole number, an answer of
+-- `rvt_tgammaf` is no NaN's pattern, and its sign bit is set exactly where `rvt_lgammaf_r_sign` answers -1 for the same bits (`single_entries_agree`), and
+-- where `rvt_lgamma_r_sign` does for the same number (`wide_entry_agrees`), by the same rule (`single_entries_rule`). At a negative whole number it is the
+-- NaN's pattern (`single_entries_at_poles`). Assumes nothing.
 use mathlib.Core.Path.{◌≡◌, sym, ap, ◌∙◌}
 use mathlib.Core.Logic.{◌⊎◌}
 use Prim.Native.Nat.{ℕ, ◌%◌, ◌^◌, ◌<◌}

@@ -1,6 +1,6 @@
--- What specs/Value says of the value of a bit pattern, by the pattern's fields, in either format. A finite value has finite bits (`finite-back`), and a NaN
--- a NaN's (`nan-back`). `Same x s a c` says of x what specs/Pattern says of a sign s and a size a / c, and holds of the value of every finite pattern
--- (`pattern-same`). Assumes nothing.
+-- What specs/Value says of the value of a bit pattern, by the pattern's fields, in either format. A finite value has finite bits (`finite_back`), and a NaN
+-- a NaN's (`nan_back`). `Same x s a c` says of x what specs/Pattern says of a sign s and a size a / c, and holds of the value of every finite pattern
+-- (`pattern_same`). Assumes nothing.
 use mathlib.Core.Path.{◌≡◌, refl, sym, ap, ◌∙◌, subst}
 use mathlib.Core.Logic.{◌⊎◌, inl, inr}
 use Prim.Native.Nat.{ℕ, zero, suc, ◌+◌, ◌-◌, ◌*◌, ◌/◌, ◌%◌, ◌^◌, ◌<◌, ◌≤◌}

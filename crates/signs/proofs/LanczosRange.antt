@@ -1,6 +1,6 @@
 -- tgamma's Lanczos formula for a size x from 2 ^ -54 to 184, by intervals:
---   `s-range`: S(x) lies from 2 ^ -40 to 2 ^ 100; `r-range`: S(x) exp(-(x + g - 0.5)) lies from 2 ^ -340 to 2 ^ 100;
---   `y-range`: y = x + g - 0.5 lies from 5.5 to 190; `z-range`: z = x - 0.5 from -184 to 184; `exponent-range`: so half of it from -92 to 92.
+--   `s_range`: S(x) lies from 2 ^ -40 to 2 ^ 100; `r_range`: S(x) exp(-(x + g - 0.5)) lies from 2 ^ -340 to 2 ^ 100;
+--   `y_range`: y = x + g - 0.5 lies from 5.5 to 190; `z_range`: z = x - 0.5 from -184 to 184; `exponent_range`: so half of it from -92 to 92.
 -- Assumes nothing.
 use mathlib.Core.Path.{◌≡◌, refl, subst}
 use mathlib.Core.List.{[], ◌∷◌}

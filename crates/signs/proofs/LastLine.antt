@@ -1,6 +1,6 @@
 -- tgamma's last line, r z z: it has the sign of a finite r that is not zero, for any z that is no NaN and carries no minus sign, whatever
--- overflows or vanishes (`last_line`, over the format). So `lastS` has r's sign, for the y, dy and z of an x from 2 ^ -54 to 184 and of
--- their negatives, and an r from 2 ^ -600 to 2 ^ 600 in size (`last-keeps`). Assumes nothing.
+-- overflows or vanishes (`last_line`, over the format). So `last_s` has r's sign, for the y, dy and z of an x from 2 ^ -54 to 184 and of
+-- their negatives, and an r from 2 ^ -600 to 2 ^ 600 in size (`last_keeps`). Assumes nothing.
 use mathlib.Core.Path.{refl, sym, ap, ◌∙◌, ◌≡◌, subst}
 use Prim.Native.Nat.{ℕ, zero, suc, ◌*◌, ◌<◌}
 use native.Mathlib.Nat.{zero-lt-suc, zero-mul, mul-zero, mul-pos}

@@ -1,5 +1,5 @@
 -- tgamma's Lanczos formula at a negative x that is no whole number, from 2 ^ -54 to 184 in size: it has a minus sign where the whole part of the size is
--- even (`reflected-even`), and none where it is odd (`reflected-odd`). Assumes nothing.
+-- even (`reflected_even`), and none where it is odd (`reflected_odd`). Assumes nothing.
 use mathlib.Core.Path.{◌≡◌, sym, subst}
 use Prim.Native.Nat.{ℕ, ◌*◌, ◌/◌, ◌%◌, ◌<◌}
 use mathlib.Core.Bool.{Bool, true, false}

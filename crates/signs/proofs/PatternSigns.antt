@@ -1,8 +1,8 @@
 -- THE THEOREM on bit patterns, in the words of specs/Promises: for the 64 bits n of a finite f64 that is no negative whole number, tgamma's bits r are no
--- NaN's (`no-nan-bits`), and their sign bit is set exactly where lgamma_r's sign is -1 (`same-sign-bits`), which is exactly where n's sign bit is set and
--- the whole part of the size is even (`sign-rule-bits`). The sign is 1 or -1 for any n (`reports-bits`). At a negative whole number r is the NaN's pattern
--- and the sign 1 (`at-poles-bits`). And the same of the 32 bits of an f32, of tgammaf with lgammaf_r (the same names with -f32); its sign is lgamma_r's of
--- the same number, too (`same-sign-bits-wide`). The words for bits say of them what those for values say of their value, both ways (`bits-mean`), and so
+-- NaN's (`no_nan_bits`), and their sign bit is set exactly where lgamma_r's sign is -1 (`same_sign_bits`), which is exactly where n's sign bit is set and
+-- the whole part of the size is even (`sign_rule_bits`). The sign is 1 or -1 for any n (`reports_bits`). At a negative whole number r is the NaN's pattern
+-- and the sign 1 (`at_poles_bits`). And the same of the 32 bits of an f32, of tgammaf with lgammaf_r (the same names with _f32); its sign is lgamma_r's of
+-- the same number, too (`same_sign_bits_wide`). The words for bits say of them what those for values say of their value, both ways (`bits_mean`), and so
 -- what is true of a format's values is true of its bits, whichever the functions are: the laws that end in -of. Assumes nothing.
 use mathlib.Core.Path.{◌≡◌, sym, ap, ◌∙◌, subst}
 use mathlib.Core.Logic.{◌⊎◌}
@@ -61,13 +61,13 @@ bits_mean f n l = record {
 }
 
 -- ---- from values to bits, in either format
-module _ (f : Format) (g : Float → Float) (g-fits : (x : Float) → T (fits f (g x))) where
+module _ (f : Format) (g : Float → Float) (g_fits : (x : Float) → T (fits f (g x))) where
   no_nan_of : NoNan f g → NoNanBits f g
   no_nan_of k n r l h w e d =
       let x = of_bits f n in
       let v = bits_mean f n l in
       k x (of_bits-fits f n) (v.finite h) (λ p. w (v.whole_back h p))
-      (sym (ap (of_bits f) e ∙ of_bits-to_bits f (g x) (g-fits x)) ∙ nan_value f r d)
+      (sym (ap (of_bits f) e ∙ of_bits-to_bits f (g x) (g_fits x)) ∙ nan_value f r d)
 
   sign_rule_of : SignRule f g → SignRuleBits f g
   sign_rule_of k n r l h w e =

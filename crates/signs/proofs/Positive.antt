@@ -1,4 +1,4 @@
--- tgamma's Lanczos formula carries no minus sign and is no NaN, for a positive x from 2 ^ -54 to 184: `lanczos-sign`. Assumes nothing.
+-- tgamma's Lanczos formula carries no minus sign and is no NaN, for a positive x from 2 ^ -54 to 184: `lanczos_sign`. Assumes nothing.
 use mathlib.Core.Path.{◌≡◌, sym, subst}
 use mathlib.Core.Bool.{false}
 use lib.Dec.{T}

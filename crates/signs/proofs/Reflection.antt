@@ -1,6 +1,6 @@
 -- The quotient of tgamma's reflection, -PI / (sinpi(x) x r), for an x from 2 ^ -54 to 184 that is no whole number and an r from 2 ^ -340 to 2 ^ 100:
--- finite, of a size from 2 ^ -600 to 2 ^ 600 (`Sized`), with a minus sign where the whole part of x is even (`quotient-even`) and with none where it is
--- odd (`quotient-odd`). By intervals, from the size of sinpi. Assumes nothing.
+-- finite, of a size from 2 ^ -600 to 2 ^ 600 (`Sized`), with a minus sign where the whole part of x is even (`quotient_even`) and with none where it is
+-- odd (`quotient_odd`). By intervals, from the size of sinpi. Assumes nothing.
 use mathlib.Core.Path.{◌≡◌, refl, subst}
 use mathlib.Core.List.{List, [], ◌∷◌}
 use Prim.Native.Nat.{ℕ, ◌*◌, ◌/◌, ◌%◌}

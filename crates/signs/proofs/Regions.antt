@@ -1,6 +1,6 @@
 -- The sign of tgamma at a finite x = ±(m * up e) / (down e) that is no negative whole number, from the formula that gives its answer (`Course`): none
--- for an x with no minus sign (`plus-sign`); for one with a minus sign a minus where the whole part of the size is even, and none where it is odd
--- (`minus-sign`). Assumes nothing.
+-- for an x with no minus sign (`plus_sign`); for one with a minus sign a minus where the whole part of the size is even, and none where it is odd
+-- (`minus_sign`). Assumes nothing.
 use mathlib.Core.Path.{◌≡◌, refl}
 use mathlib.Core.List.{List, [], ◌∷◌}
 use Prim.Native.Nat.{ℕ, zero, suc, ◌-◌, ◌*◌, ◌/◌, ◌%◌, ◌^◌, ◌<◌, ◌≤◌}

@@ -1,8 +1,8 @@
 -- THE THEOREM, in the words of specs/Promises: for every finite f64 x that is no negative whole number, tgamma(x) is no NaN (`no_nan`), and its sign bit is
 -- set exactly where lgamma_r(x) reports the sign -1 (`same_sign`), which is exactly where x carries a minus sign and the whole part of its size is even
--- (`sign-rule`). lgamma_r reports +1 or -1 for every f64, the infinities and the NaN included (`reports`). At a negative whole number tgamma is NaN and
--- lgamma_r reports +1 (`at-poles`). And the same in f32, of tgammaf with lgammaf_r (the same names with -f32), an answer that overflows or vanishes
--- included; its sign is lgamma_r's of the same number, too (`same-sign-wide`). tgamma_s, lgamma_s, tgammaf_s and lgammaf_s are the definitions that the
+-- (`sign_rule`). lgamma_r reports +1 or -1 for every f64, the infinities and the NaN included (`reports`). At a negative whole number tgamma is NaN and
+-- lgamma_r reports +1 (`at_poles`). And the same in f32, of tgammaf with lgammaf_r (the same names with _f32), an answer that overflows or vanishes
+-- included; its sign is lgamma_r's of the same number, too (`same_sign_wide`). tgamma_s, lgamma_s, tgammaf_s and lgammaf_s are the definitions that the
 -- functions are proved to equal. Assumes nothing.
 use mathlib.Core.Path.{◌≡◌, sym, ap, subst}
 use mathlib.Core.Logic.{◌⊎◌, inl, inr}

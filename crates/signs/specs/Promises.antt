@@ -1,7 +1,7 @@
 -- What is promised of the signs, over a format f, a gamma function g and a log-gamma l: of values in the words of Value, and of bit patterns in those of
 -- Pattern. All of it is proved of tgamma and lgamma_r in f64, and of tgammaf and lgammaf_r in f32; of tgammaf and lgamma_r, in f32 too, that the signs
 -- agree (proofs/Signs, PatternSigns).
--- `T (fits f x)` says that x is a float of the format, `signS f y` is the sign bit of y, 1 or 0, and `pos 1` and `negsuc 0` are +1 and -1. The zeros are
+-- `T (fits f x)` says that x is a float of the format, `sign_s f y` is the sign bit of y, 1 or 0, and `pos 1` and `negsuc 0` are +1 and -1. The zeros are
 -- finite and no negative whole numbers, and -0 carries a minus sign. An answer may be an infinity or a zero: its sign is its sign bit all the same.
 use Rattle.std.specs.Prelude.{◌≡◌, ◌⊎◌, ℕ, ◌*◌, ◌%◌, ◌<◌, false, ℤ, pos, negsuc, T, Float}
 use Rattle.std.specs.Float.{Format, nan, inf}

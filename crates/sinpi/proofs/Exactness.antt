@@ -1,6 +1,6 @@
 -- The reduction of sinpi, exactly, over the format. L = 2 ^ low smallest units are 1; x, with no minus sign, is X = m * 2 ^ (j + 1) units. Then x mod 2
--- is X mod 2 L units (`turn-value`, `turn_is`), the whole part of four times that is its quotient (`quarter-value`), and x mod 2 less n / 2 is exact too
--- (`fold-down`, `fold_up`).
+-- is X mod 2 L units (`turn_value`, `turn_is`), the whole part of four times that is its quotient (`quarter_value`), and x mod 2 less n / 2 is exact too
+-- (`fold_down`, `fold_up`).
 -- L stays a variable in the arithmetic: its numeral is too long for `omega`. Assumes nothing.
 use mathlib.Core.Path.{◌≡◌, refl, sym, ap, ◌∙◌, subst}
 use Prim.Native.Nat.{ℕ, suc, ◌+◌, ◌-◌, ◌*◌, ◌/◌, ◌%◌, ◌^◌, ◌≤◌, ◌<◌}

@@ -1,4 +1,4 @@
--- sinpi of a value that is no whole number, octant by octant, over the kernels of the sine and of the cosine (`sinpi-turn`): where a property holds of what they
+-- sinpi of a value that is no whole number, octant by octant, over the kernels of the sine and of the cosine (`sinpi_turn`): where a property holds of what they
 -- give (`Kernels`), it holds of sinpi in the first half of a turn, and of the negative of sinpi in the second. Assumes nothing.
 use mathlib.Core.Path.{◌≡◌, refl, sym, ap, ◌∙◌, subst}
 use Prim.Native.Nat.{ℕ, zero, suc, ◌+◌, ◌-◌, ◌*◌, ◌/◌, ◌^◌, ◌≤◌, ◌<◌}

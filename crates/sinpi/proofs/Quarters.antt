@@ -1,5 +1,5 @@
--- n by four tests of t = x mod 2, over the format: t is a NaN or at most 2 (`turn-at-most`), and (whole part of 4 t + 1) / 2 is 0 below 1/4, 1 below 3/4,
--- 2 below 5/4, 3 below 7/4, and 4 from there on. So each case of sinpi goes by a test (`case-0` to `case-4`). Assumes nothing.
+-- n by four tests of t = x mod 2, over the format: t is a NaN or at most 2 (`turn_at_most`), and (whole part of 4 t + 1) / 2 is 0 below 1/4, 1 below 3/4,
+-- 2 below 5/4, 3 below 7/4, and 4 from there on. So each case of sinpi goes by a test (`case_0` to `case_4`). Assumes nothing.
 use mathlib.Core.Path.{◌≡◌, refl, sym, ap, ◌∙◌, subst}
 use mathlib.Core.Logic.{◌⊎◌, inl, inr}
 use Prim.Native.Nat.{ℕ, zero, suc, ◌+◌, ◌-◌, ◌*◌, ◌/◌, ◌%◌, ◌^◌, ◌≤◌, ◌<◌}

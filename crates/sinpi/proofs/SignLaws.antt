@@ -1,5 +1,5 @@
--- The sign of sinpi at an x from 2 ^ -70 on: above zero where x is no whole number and its whole part is even (`sinpi-even`), below zero where that is odd
--- (`sinpi-odd`), and +0 at every whole number (`sinpi-whole`). `by-whole-part` says the first two of any property that the
+-- The sign of sinpi at an x from 2 ^ -70 on: above zero where x is no whole number and its whole part is even (`sinpi_even`), below zero where that is odd
+-- (`sinpi_odd`), and +0 at every whole number (`sinpi_whole`). `by_whole_part` says the first two of any property that the
 -- kernels of the sine and of the cosine have, and over the kernels. Assumes nothing.
 use mathlib.Core.Path.{◌≡◌, refl, sym, ap, ◌∙◌, subst}
 use mathlib.Core.Logic.{◌⊎◌, inl, inr}

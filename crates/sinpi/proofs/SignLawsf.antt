@@ -1,5 +1,5 @@
--- The sign of the f32 sinpi at an f32 x from 2 ^ -21 on: above zero where x is no whole number and its whole part is even (`sinpif-even`), below zero where
--- that is odd (`sinpif-odd`), and +0 at every whole number (`sinpif-whole`). x mod 2 is exact in f32 and in f64, so that of f32 is that of f64 (`same_turn`),
+-- The sign of the f32 sinpi at an f32 x from 2 ^ -21 on: above zero where x is no whole number and its whole part is even (`sinpif_even`), below zero where
+-- that is odd (`sinpif_odd`), and +0 at every whole number (`sinpif_whole`). x mod 2 is exact in f32 and in f64, so that of f32 is that of f64 (`same_turn`),
 -- and the f32 sinpi is sinpi over the kernels k_sinf and k_cosf. Assumes nothing.
 use mathlib.Core.Path.{◌≡◌, refl, sym, ap, ◌∙◌, subst}
 use Prim.Native.Nat.{ℕ, zero, suc, ◌+◌, ◌*◌, ◌/◌, ◌%◌, ◌^◌, ◌≤◌, ◌<◌}

@@ -1,4 +1,4 @@
--- The size of sinpi at an x from 2 ^ -54 on that is no whole number: from 2 ^ -110 to 2 (`sinpi-size`, with the sign by the whole part of x). Such an x is
+-- The size of sinpi at an x from 2 ^ -54 on that is no whole number: from 2 ^ -110 to 2 (`sinpi_size`, with the sign by the whole part of x). Such an x is
 -- at least 2 ^ -106 off each whole number, and k_sin is at least half of its argument. Assumes nothing.
 use mathlib.Core.Path.{◌≡◌, refl, sym, subst}
 use Prim.Native.Nat.{ℕ, ◌+◌, ◌*◌, ◌/◌, ◌%◌, ◌^◌, ◌≤◌, ◌<◌}

@@ -1,4 +1,4 @@
--- x mod 2 of a whole number is 0 or 1, over the format (`whole-turn`); and what a whole number and one that is none are in units. Assumes nothing.
+-- x mod 2 of a whole number is 0 or 1, over the format (`whole_turn`); and what a whole number and one that is none are in units. Assumes nothing.
 use mathlib.Core.Path.{◌≡◌, refl, sym, ap, ◌∙◌, subst}
 use mathlib.Core.Logic.{◌⊎◌, inl, inr}
 use Prim.Native.Nat.{ℕ, zero, suc, ◌+◌, ◌-◌, ◌*◌, ◌/◌, ◌%◌, ◌^◌, ◌≤◌, ◌<◌}

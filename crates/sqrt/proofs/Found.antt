@@ -36,12 +36,12 @@ module _ (m : ℕ) (e : ℤ) (Z : ℕ) (t : T (fits binary64 (fin false m e))) (
 
       deep : k ≤ j
       deep =
-          le_of_suc-le-suc (le-of-add (pow_cancel_lt (52 + k) (53 + j)
+          le_of_suc-le-suc (le_of_add (pow_cancel_lt (52 + k) (53 + j)
           (lt_of_le_of_lt (le_of_eq (pow-add 2 52 k))
           (lt_of_le_of_lt h (lt_of_lt_of_le (subst (λ (n : ℕ). n < 2 ^ 53 * 2 ^ j) (sym units) (mul-lt-mul_of_pos_right on.1.1 (pow_pos j))) (le_of_eq (sym (pow-add 2 53 j))))))))
         where
-          le-of-add : 52 + k < 53 + j → k < suc j
-          le-of-add g = omega arith
+          le_of_add : 52 + k < 53 + j → k < suc j
+          le_of_add g = omega arith
 
       back : (j k : ℕ) → k ≤ j → j ≡ j - k + k
       back j k h = omega arith
@@ -76,7 +76,7 @@ found_at x b A N v e from upto lo hi =
 
 -- a number of up to 53 digits, moved up to 53
 lift : (a : ℕ) → 0 < a → a < 2 ^ 53 → (s : ℕ) × (s ≤ 52) × (2 ^ 52 ≤ a * 2 ^ s) × (a * 2 ^ s < 2 ^ 53)
-lift a p h = let from = n-from in let upto = n-upto in (
+lift a p h = let from = n_from in let upto = n_upto in (
   53 - n,
   omega arith,
   le_trans (le_of_eq (up 52 (n - 1) (omega arith))) (mul-le-mul_right (2 ^ (53 - n)) (size_reaches a (n - 1) (omega arith))),
@@ -86,11 +86,11 @@ lift a p h = let from = n-from in let upto = n-upto in (
     n : ℕ
     n = size a
 
-    n-from : 0 < n
-    n-from = pow_cancel_lt 0 n (lt_of_le_of_lt p (size-lt a))
+    n_from : 0 < n
+    n_from = pow_cancel_lt 0 n (lt_of_le_of_lt p (size-lt a))
 
-    n-upto : n ≤ 53
-    n-upto = size-le a 53 h
+    n_upto : n ≤ 53
+    n_upto = size-le a 53 h
 
     up : (d i : ℕ) → d ≡ i + (53 - n) → 2 ^ d ≡ 2 ^ i * 2 ^ (53 - n)
     up d i e = ap (λ (z : ℕ). 2 ^ z) e ∙ pow-add 2 i (53 - n)
@@ -132,11 +132,11 @@ found m e X t v = at (on (suc m) e X t v).0 (units (suc m) e X t v) (on (suc m) 
         w : HasValue x false (X * 2 ^ 1024) (2 ^ 2098)
         w = value_longer x false X (2 ^ 1074) (2 ^ 1024) v
 
-        j-lt : j < 2098
-        j-lt = pow_cancel_lt j 2098 (lt_of_le_of_lt (le_trans (le_of_eq (sym (one-mul (2 ^ j)))) (mul-le-mul_right (2 ^ j) (suc-le-suc zero-le))) fine)
+        j_lt : j < 2098
+        j_lt = pow_cancel_lt j 2098 (lt_of_le_of_lt (le_trans (le_of_eq (sym (one-mul (2 ^ j)))) (mul-le-mul_right (2 ^ j) (suc-le-suc zero-le))) fine)
 
         k_lt : k < 3150
-        k_lt = let l = j-lt in omega arith
+        k_lt = let l = j_lt in omega arith
 
         N : X * 2 ^ 1024 ≡ D * 2 ^ k
         N =

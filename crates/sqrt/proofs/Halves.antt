@@ -53,9 +53,9 @@ module _ (n r t : ℕ) (h : RootIs n r) where
           weak n m l = omega arith
 
 -- ---- n is M squares of 2 * G, and the root of M lies within a half of q: so does that of n of q, in units of 2 * G
-module _ (n M G q r : ℕ) (G-pos : 0 < G) (e : n ≡ M * (2 * G * (2 * G))) (h : RootIs n r) where
+module _ (n M G q r : ℕ) (G_pos : 0 < G) (e : n ≡ M * (2 * G * (2 * G))) (h : RootIs n r) where
   square : 0 < G * G
-  square = mul-pos G-pos G-pos
+  square = mul-pos G_pos G_pos
 
   pub half_over : M ≤ q * q + q → 2 * halves n r < 2 * (q * (4 * G)) + 4 * G
   half_over l =
@@ -81,14 +81,14 @@ module _ (n M G q r : ℕ) (G-pos : 0 < G) (e : n ≡ M * (2 * G * (2 * G))) (h 
       wide p a k = omega arith
 
       none : (a : ℕ) → 2 * (0 * (4 * G)) < 2 * a + 4 * G
-      none a = let g = G-pos in omega arith
+      none a = let g = G_pos in omega arith
 
       go : (z : ℕ) → q ≡ z → 2 * (z * (4 * G)) < 2 * halves n r + 4 * G
       go zero g = none (halves n r)
       go (suc p) g = wide p (halves n r) (over n r ((2 * p + 1) * G) h (big p g (mul-le-mul_right (G * G) (less p g))))
 
 -- where M has 2 * k + 1 or 2 * k + 2 digits the root has k + 1: from K = 2 ^ k to below 2 * K
-module _ (n M G K r : ℕ) (G-pos : 0 < G) (e : n ≡ M * (2 * G * (2 * G))) (h : RootIs n r) where
+module _ (n M G K r : ℕ) (G_pos : 0 < G) (e : n ≡ M * (2 * G * (2 * G))) (h : RootIs n r) where
   pub digits_from : K * K ≤ M → K * (4 * G) ≤ halves n r
   digits_from l = wide (halves n r) (from_below n r (K * (2 * G)) h (big (mul-le-mul_right (G * G) l)))
     where
@@ -99,7 +99,7 @@ module _ (n M G K r : ℕ) (G-pos : 0 < G) (e : n ≡ M * (2 * G * (2 * G))) (h 
       wide a k = omega arith
 
   pub digits_under : M < K * K → halves n r < K * (4 * G)
-  digits_under l = wide (halves n r) (under n r (K * (2 * G)) h (big (mul-lt-mul_of_pos_right l (mul-pos G-pos G-pos))))
+  digits_under l = wide (halves n r) (under n r (K * (2 * G)) h (big (mul-lt-mul_of_pos_right l (mul-pos G_pos G_pos))))
     where
       big : M * (G * G) < K * K * (G * G) → n < K * (2 * G) * (K * (2 * G))
       big a = omega arith

@@ -17,5 +17,5 @@ pub mod Turns
 pub mod Found
 -- Sides: on which side of a middle a root lies
 pub mod Sides
--- Nearest: the answer is finite, and no other f64 lies as near to the root (`sqrt-nearest`)
+-- Nearest: the answer is finite, and no other f64 lies as near to the root (`sqrt_nearest`)
 pub mod Nearest

@@ -1,4 +1,4 @@
--- sqrt of a finite f64 with no minus sign is a finite f64 with none, and no other f64 lies as near to the root (`sqrt-nearest`). Assumes nothing.
+-- sqrt of a finite f64 with no minus sign is a finite f64 with none, and no other f64 lies as near to the root (`sqrt_nearest`). Assumes nothing.
 use mathlib.Core.Path.{◌≡◌, refl, sym, ap, ◌∙◌}
 use Prim.Native.Nat.{ℕ, zero, suc, ◌+◌, ◌*◌, ◌^◌, ◌<◌}
 use native.Mathlib.Nat.{mul_assoc, mul-pos, zero-mul}

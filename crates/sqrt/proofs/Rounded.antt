@@ -54,8 +54,8 @@ round_near f s a c q k w C e lo hi under over fine =
     L : ℕ
     L = 2 ^ low f
 
-    L-pos : 0 < L
-    L-pos = pow_pos (low f)
+    L_pos : 0 < L
+    L_pos = pow_pos (low f)
 
     -- the same in smallest values
     u : w * L ≡ c * 2 ^ k
@@ -64,30 +64,30 @@ round_near f s a c q k w C e lo hi under over fine =
     scale : (x : ℕ) → x * w * L ≡ x * (c * 2 ^ k)
     scale x = mul_assoc x w L ∙ ap (λ (z : ℕ). x * z) u
 
-    k-is : drop (prec f) (a * L) c ≡ k
-    k-is =
+    k_is : drop (prec f) (a * L) c ≡ k
+    k_is =
         drops (prec f) (a * L) c k (two-le_pos (prec f) (two f)) C
         (le_trans (le_of_eq (sym (scale (2 ^ (prec f - 1))))) (mul-le-mul_right L lo))
-        (lt_of_lt_of_le (mul-lt-mul_of_pos_right hi L-pos) (le_of_eq (scale (2 ^ prec f))))
+        (lt_of_lt_of_le (mul-lt-mul_of_pos_right hi L_pos) (le_of_eq (scale (2 ^ prec f))))
 
-    u-pos : 0 < c * 2 ^ k
-    u-pos = mul-pos C (pow_pos k)
+    u_pos : 0 < c * 2 ^ k
+    u_pos = mul-pos C (pow_pos k)
 
     grown : (A B w L : ℕ) → 0 < L → A < B + w → A * L < B * L + w * L
     grown A B w L l h = lt_of_lt_of_le (mul-lt-mul_of_pos_right h l) (le_of_eq (add-mul B w L))
 
-    tidy-q : 2 * (q * w) * L ≡ 2 * (q * (c * 2 ^ k))
-    tidy-q = mul_assoc 2 (q * w) L ∙ ap (λ (z : ℕ). 2 * z) (scale q)
+    tidy_q : 2 * (q * w) * L ≡ 2 * (q * (c * 2 ^ k))
+    tidy_q = mul_assoc 2 (q * w) L ∙ ap (λ (z : ℕ). 2 * z) (scale q)
 
-    q-is : closest (a * L) (c * 2 ^ k) ≡ q
-    q-is =
-        closest_is (a * L) (c * 2 ^ k) q u-pos
-        (subst (λ (z : ℕ). z < 2 * (a * L) + c * 2 ^ k) tidy-q
+    q_is : closest (a * L) (c * 2 ^ k) ≡ q
+    q_is =
+        closest_is (a * L) (c * 2 ^ k) q u_pos
+        (subst (λ (z : ℕ). z < 2 * (a * L) + c * 2 ^ k) tidy_q
         (subst (λ (z : ℕ). 2 * (q * w) * L < z + c * 2 ^ k) (mul_assoc 2 a L)
-        (subst (λ (z : ℕ). 2 * (q * w) * L < 2 * a * L + z) u (grown (2 * (q * w)) (2 * a) w L L-pos under))))
-        (subst (λ (z : ℕ). 2 * (a * L) < z + c * 2 ^ k) tidy-q
+        (subst (λ (z : ℕ). 2 * (q * w) * L < 2 * a * L + z) u (grown (2 * (q * w)) (2 * a) w L L_pos under))))
+        (subst (λ (z : ℕ). 2 * (a * L) < z + c * 2 ^ k) tidy_q
         (subst (λ (z : ℕ). z < 2 * (q * w) * L + c * 2 ^ k) (mul_assoc 2 a L)
-        (subst (λ (z : ℕ). 2 * a * L < 2 * (q * w) * L + z) u (grown (2 * a) (2 * (q * w)) w L L-pos over))))
+        (subst (λ (z : ℕ). 2 * a * L < 2 * (q * w) * L + z) u (grown (2 * a) (2 * (q * w)) w L L_pos over))))
 
     value : grid f a c ≡ q * 2 ^ k
-    value = ap (λ (z : ℕ). closest (a * L) (c * 2 ^ z) * 2 ^ z) k-is ∙ ap (λ (z : ℕ). z * 2 ^ k) q-is
+    value = ap (λ (z : ℕ). closest (a * L) (c * 2 ^ z) * 2 ^ z) k_is ∙ ap (λ (z : ℕ). z * 2 ^ k) q_is

@@ -66,11 +66,11 @@ module _ (M U q B S Y Z : ℕ) (U_pos : 0 < U) (s : S ≡ M * (U * U)) (y : Y �
       under : Z < q * U
       under = subst (λ (n : ℕ). Z < n) y h
 
-      q-pos : 0 < q
-      q-pos = lt_of_mul-lt-mul_right U (lt_of_le_of_lt (le_of_eq (zero-mul U)) (lt_of_le_of_lt zero-le under))
+      q_pos : 0 < q
+      q_pos = lt_of_mul-lt-mul_right U (lt_of_le_of_lt (le_of_eq (zero-mul U)) (lt_of_le_of_lt zero-le under))
 
       p : (p : ℕ) × (q ≡ suc p)
-      p = pred q q-pos
+      p = pred q q_pos
 
       on : (w : ℕ) × (Z ≡ w * U) → (Y + Z) * (Y + Z) < 4 * S
       on w =

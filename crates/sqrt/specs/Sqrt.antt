@@ -17,7 +17,7 @@ root n = root_of (size n) n
 
 -- For a positive x, which is m * 2 ^ e, n = x * 4 ^ 601 is a whole number, and the root of x is that of n over 2 ^ 601. The root of n lies from
 -- r to below r + 1. r has 65 binary digits or more, where an f64 has 53 and the middle of two neighbours 54: so all that lies between r and
--- r + 1 is rounded alike, and r + 1/2 stands for it. That the answer is finite and no other f64 lies as near to the root is law `sqrt-nearest` of
+-- r + 1 is rounded alike, and r + 1/2 stands for it. That the answer is finite and no other f64 lies as near to the root is law `sqrt_nearest` of
 -- proofs/Nearest.antt.
 unfoldable pub sqrt_s : Float → Float
 unfolding root round

@@ -1,4 +1,4 @@
--- tgamma's answer is an f64: `tgamma-fits`. Assumes nothing.
+-- tgamma's answer is an f64: `tgamma_fits`. Assumes nothing.
 use mathlib.Core.List.{List, [], ◌∷◌}
 use Prim.Native.Nat.{ℕ, zero, suc, ◌-◌}
 use mathlib.Core.Bool.{Bool, true, false, ◌&&◌}

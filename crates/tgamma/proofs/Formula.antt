@@ -1,5 +1,5 @@
--- The lines of the Lanczos formula, for callers that bound them: `lanczos-plus` and `lanczos-minus`, the formula by the sign of x; `last-is`, its last
--- lines; `dy-either`, dy as one of two differences; and S(x) as an expression in x that intervals bound, below 8 (`s-low`) and from there on (`s-high`).
+-- The lines of the Lanczos formula, for callers that bound them: `lanczos_plus` and `lanczos_minus`, the formula by the sign of x; `last_is`, its last
+-- lines; `dy_either`, dy as one of two differences; and S(x) as an expression in x that intervals bound, below 8 (`s_low`) and from there on (`s_high`).
 -- Assumes nothing.
 use mathlib.Core.Path.{◌≡◌, refl, ap}
 use mathlib.Core.List.{List, [], ◌∷◌}

@@ -1,6 +1,6 @@
 -- tgamma at a point of each course of the Lanczos formula, worked out by the checker down to pow, exp and sinpi: S(x) from the last
--- coefficient on, from the first on, and the reflection (`tgamma-points`); and at f32 numbers whose answers leave f32's range, upwards and
--- downwards, or nearly so (`tgamma-far`). The values are the Rust's. Assumes nothing.
+-- coefficient on, from the first on, and the reflection (`tgamma_points`); and at f32 numbers whose answers leave f32's range, upwards and
+-- downwards, or nearly so (`tgamma_far`). The values are the Rust's. Assumes nothing.
 use mathlib.Core.Path.{◌≡◌, refl}
 use lib.Ieee.{of_bits, to_bits, add, sub, mul, div, neg, eq, lt, le, of_int}
 use Rattle.words.specs.F64.{bits}

@@ -71,11 +71,11 @@ integer : (m : ℕ) (e : ℤ) → T (fits binary64 (fin false m e)) → ltb (siz
     → Course false m e (integer_s (fin false m e) (size_word_s (fin false m e)) 0)
 unfolding integer_s
 integer m e F t h true k =
-    let p : Plus 1 23 (fin false m e) = fact_index (fin false m e) (is_true _ F) (h, ltb-false _ _ t, not-one (sign_of_is binary64 false m e F), k) in
+    let p : Plus 1 23 (fin false m e) = fact_index (fin false m e) (is_true _ F) (h, ltb-false _ _ t, not_one (sign_of_is binary64 false m e F), k) in
     rw (k, p.is) (factorial refl p.q p.from p.upto)
   where
-    not-one : {n : ℕ} → n ≡ 0 → n ≡ 1 → ⊥
-    not-one h k = omega arith
+    not_one : {n : ℕ} → n ≡ 0 → n ≡ 1 → ⊥
+    not_one h k = omega arith
 integer m e F t h false k = rw k (general false m e F t _ refl)
 
 -- ---- the theorem

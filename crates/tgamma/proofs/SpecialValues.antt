@@ -1,5 +1,5 @@
 -- The gamma function at the values that ISO C's Annex F names: ±inf at ±0, NaN at every negative whole number and at -inf, +inf at +inf, NaN at a NaN.
--- `AnnexF` states them, of a function of either format; `tgamma-special`: tgamma has them. Assumes nothing.
+-- `AnnexF` states them, of a function of either format; `tgamma_special`: tgamma has them. Assumes nothing.
 use mathlib.Core.Path.{◌≡◌, refl}
 use Prim.Native.Nat.{ℕ, ◌*◌, ◌%◌, ◌<◌, ◌≤◌}
 use native.Mathlib.Nat.{mul-pos}

@@ -1,5 +1,5 @@
--- The zero that tgamma answers at -184 and below, where x is no whole number: -0 where the whole part of x's size is even (`vanished-even`), +0 where it is
--- odd (`vanished-odd`). With q that whole part, floor(x) / 2 is -(q + 1) / 2 and floor(x / 2) is -(q / 2 + 1), both exactly. Assumes nothing.
+-- The zero that tgamma answers at -184 and below, where x is no whole number: -0 where the whole part of x's size is even (`vanished_even`), +0 where it is
+-- odd (`vanished_odd`). With q that whole part, floor(x) / 2 is -(q + 1) / 2 and floor(x / 2) is -(q / 2 + 1), both exactly. Assumes nothing.
 use mathlib.Core.Path.{◌≡◌, refl, sym, ap, ◌∙◌, subst}
 use Prim.Native.Nat.{ℕ, suc, ◌+◌, ◌*◌, ◌/◌, ◌%◌, ◌^◌, ◌<◌, ◌≤◌}
 use native.Mathlib.Nat.{mul_comm, mul-one, mul_assoc, mul-pos, div-div-eq-div-mul, div-le_self, lt_of_le_of_lt, lt_of_lt_of_le, mul-lt-mul_of_pos_right}

@@ -1,5 +1,5 @@
--- tgammaf's answer is an f32 (`tgammaf-fits`). It has the sign of tgamma's, where the answer overflows or vanishes in the narrowing too, and is no NaN
--- where tgamma's is none (`tgammaf-signed`); and so its sign bit is that of tgamma's answer, for every argument (`tgammaf-sign`). Assumes nothing.
+-- tgammaf's answer is an f32 (`tgammaf_fits`). It has the sign of tgamma's, where the answer overflows or vanishes in the narrowing too, and is no NaN
+-- where tgamma's is none (`tgammaf_signed`); and so its sign bit is that of tgamma's answer, for every argument (`tgammaf_sign`). Assumes nothing.
 use mathlib.Core.Path.{◌≡◌}
 use mathlib.Core.Bool.{Bool}
 use lib.Dec.{T}

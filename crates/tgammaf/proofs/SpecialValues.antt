@@ -1,5 +1,5 @@
 -- tgammaf at the values that ISO C's Annex F names, as `AnnexF` of tgamma/proofs/SpecialValues states them, every negative whole number among them:
--- `tgammaf-special`. Assumes nothing.
+-- `tgammaf_special`. Assumes nothing.
 use mathlib.Core.Path.{ap}
 use lib.Ieee.{binary32}
 use lib.Ieee.Fits.{fits_widens}

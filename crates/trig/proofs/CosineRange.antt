@@ -1,4 +1,4 @@
--- k_cos of an x of a size up to the f64 nearest pi/4, with no tail, lies from 1/2 to 2: `cos-range`. By intervals. Assumes nothing.
+-- k_cos of an x of a size up to the f64 nearest pi/4, with no tail, lies from 1/2 to 2: `cos_range`. By intervals. Assumes nothing.
 use mathlib.Core.Path.{◌≡◌, refl, subst}
 use mathlib.Core.Logic.{inl, inr}
 use mathlib.Core.List.{List, [], ◌∷◌}

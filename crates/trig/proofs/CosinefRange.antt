@@ -1,4 +1,4 @@
--- k_cosf of an x of a size up to the f64 nearest pi/4 lies from 1/2 to 2: `cosf-range`. By intervals, as for k_cos. Assumes nothing.
+-- k_cosf of an x of a size up to the f64 nearest pi/4 lies from 1/2 to 2: `cosf_range`. By intervals, as for k_cos. Assumes nothing.
 use mathlib.Core.Path.{◌≡◌, refl, subst}
 use mathlib.Core.List.{[], ◌∷◌}
 use mathlib.Core.Bool.{false}

@@ -1,4 +1,4 @@
--- Narrowing to f32 never crosses a value of f32 (`narrow-in`), and moves a value of 2 ^ -143 or more by a 128th at most (`narrow-near`). Assumes nothing.
+-- Narrowing to f32 never crosses a value of f32 (`narrow_in`), and moves a value of 2 ^ -143 or more by a 128th at most (`narrow_near`). Assumes nothing.
 use mathlib.Core.Path.{refl, sym, subst}
 use Prim.Native.Nat.{ℕ, ◌*◌, ◌^◌, ◌≤◌, ◌<◌}
 use mathlib.Core.Bool.{Bool, false}

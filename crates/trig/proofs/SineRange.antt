@@ -1,5 +1,5 @@
--- k_sin with no tail, for sizes up to the f64 nearest pi/4: of an x above zero it lies from half of x to x (`sin-range`); of a -x it
--- is the negative of that (`sin-odd`); of either zero it is +0 (`sin-zero`).
+-- k_sin with no tail, for sizes up to the f64 nearest pi/4: of an x above zero it lies from half of x to x (`sin_range`); of a -x it
+-- is the negative of that (`sin_odd`); of either zero it is +0 (`sin_zero`).
 -- k_sin is x + v * c with v = x * x * x and c = S1 + z * r. Intervals bound c by -1/4 and 0, so v * c lies from -x/4 to 0; up to 2 ^ -500
 -- it is a zero. Assumes nothing.
 use mathlib.Core.Path.{◌≡◌, refl, sym, ap, ◌∙◌, subst}

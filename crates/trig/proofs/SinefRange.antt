@@ -1,5 +1,5 @@
--- k_sinf for sizes from 2 ^ -100 to the f64 nearest pi/4: of an x above zero it lies from half of x to twice x (`sinf-range`); of a -x it is the negative of
--- that (`sinf-odd`); of either zero it is +0 (`sinf-zero`).
+-- k_sinf for sizes from 2 ^ -100 to the f64 nearest pi/4: of an x above zero it lies from half of x to twice x (`sinf_range`); of a -x it is the negative of
+-- that (`sinf_odd`); of either zero it is +0 (`sinf_zero`).
 -- What is narrowed is x + t + u, t from -x/4 to 0 and u from -x/16 to 0. In units of 2 ^ -1074 it is worked out with the errors of its two sums, each at most
 -- a 64th of x, and narrowing moves it by a 128th. Assumes nothing.
 use mathlib.Core.Path.{◌≡◌, refl, sym, ap, ◌∙◌, subst}

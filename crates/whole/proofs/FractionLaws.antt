@@ -1,8 +1,8 @@
 -- Whether x has a fraction:
---   `fraction-at`: ±d / w has one exactly where w does not divide d;
---   `whole-test`: of a number x, the test x == floor(x) holds exactly where it has none;
---   `fraction-nan`: a NaN has none;
---   `own-floor`: what is its own floor has none.
+--   `fraction_at`: ±d / w has one exactly where w does not divide d;
+--   `whole_test`: of a number x, the test x == floor(x) holds exactly where it has none;
+--   `fraction_nan`: a NaN has none;
+--   `own_floor`: what is its own floor has none.
 -- Assumes nothing.
 use mathlib.Core.Path.{◌≡◌, refl, sym, ap, ◌∙◌}
 use mathlib.Core.Logic.{inl, inr}

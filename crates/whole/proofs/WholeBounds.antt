@@ -1,5 +1,5 @@
 -- The whole part of a value between two whole numbers a and b of one sign: it is one of those from a to b, and the value lies between it
--- and the next one further from zero (`whole-plus`, `whole-minus`). Assumes nothing.
+-- and the next one further from zero (`whole_plus`, `whole_minus`). Assumes nothing.
 use mathlib.Core.Path.{◌≡◌, refl, sym, ap, ◌∙◌, subst}
 use Prim.Native.Nat.{ℕ, zero, suc, ◌+◌, ◌*◌, ◌/◌, ◌^◌, ◌<◌, ◌≤◌, zero-le}
 use native.Mathlib.Nat.{zero-div, suc-mul, div-mul-le_self, lt-div-mul-add, le-div_iff_mul-le, div-lt_iff_lt-mul}

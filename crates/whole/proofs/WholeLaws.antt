@@ -1,8 +1,8 @@
 -- The whole part by the value of x:
---   `whole-at`, `whole-value`: of ±d / w it is ±(d / w), where that is below 2 ^ 31, and else 0;
+--   `whole_at`, `whole_value`: of ±d / w it is ±(d / w), where that is below 2 ^ 31, and else 0;
 --   `whole_nan`: of a NaN it is 0;
 --   `whole_neg`: of -x it is that of x, negated;
---   `signed-fits`, `whole-fits`, `whole-held`: an i32 holds it.
+--   `signed_fits`, `whole_fits`, `whole_held`: an i32 holds it.
 -- Assumes nothing.
 use mathlib.Core.Path.{◌≡◌, refl, sym, ap, ◌∙◌, subst}
 use mathlib.Core.Bool.{Bool, true, false, not, cond}

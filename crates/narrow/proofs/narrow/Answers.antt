@@ -16,10 +16,6 @@ pub narrowed-n-requires : goal.narrowed-n-requires
 narrowed-n-requires c =
     up_to_inf binary64 c.args.x c.bits_of-b.result c.well_formed.0.1 c.bits_of-b.ensures c.if-x.false
 
-pub overflow_cast-result : goal.overflow_cast-result
-overflow_cast-result c = omega arith
-
--- what is read back is the narrowed size with the sign of x, and no NaN
 pub float_from_bits-result : goal.float_from_bits-result
 float_from_bits-result c = pattern_not_nan binary32 (c.narrowed-n.result + c.bits_of-b.result / 0x8000000000000000 * 0x80000000) (omega arith)
 

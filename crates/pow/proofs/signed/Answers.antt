@@ -6,9 +6,6 @@ use Rattle.pow.specs.Pow.{signed_s}
 use Rattle.pow.proofs.FarLaws.{huge, near}
 use Rattle.pow.proofs.signed.Goals as goal
 
-pub far-requires : goal.far-requires
-far-requires c = sym c.is_far.ensures ∙ c.if-is_far.true
-
 pub returns-then-is_far : goal.returns-then-is_far
 unfolding signed_s
 returns-then-is_far c =

@@ -13,15 +13,6 @@ use Rattle.sqrt.proofs.normalise.Goals as goal
 pub overflow_sub-up : goal.overflow_sub-up
 overflow_sub-up c = let t = moved c.args.ix (omega arith) (omega arith) in omega arith
 
-pub overflow_cast-result : goal.overflow_cast-result
-overflow_cast-result c = let t = moved c.args.ix (omega arith) (omega arith) in omega arith
-
-pub overflow_shl-result : goal.overflow_shl-result
-overflow_shl-result c = let t = moved c.args.ix (omega arith) (omega arith) in omega arith
-
-pub overflow_sub-result : goal.overflow_sub-result
-overflow_sub-result c = let t = moved c.args.ix (omega arith) (omega arith) in omega arith
-
 pub returns-then-e-eq0 : goal.returns-then-e-eq0
 returns-then-e-eq0 c =
     let b = c.args.ix in

@@ -1,9 +1,6 @@
 -- `tgamma::lanczos::down` meets its contract. Assumes nothing.
-use Prim.Native.Nat.{ℕ, ◌-◌}
-use mathlib.Core.Path.{◌≡◌, ap, ◌∙◌}
+use Prim.Native.Nat.{◌-◌}
 use native.Mathlib.Omega.{arith}
-use lib.ListN.{drop}
-use Rattle.tgamma.specs.Lanczos.{down_s}
 use Rattle.tgamma.proofs.Turns as turns
 use Rattle.tgamma.proofs.lanczos.down.Goals as goal
 
@@ -14,7 +11,3 @@ pub loop-i-preserved : goal.loop-i-preserved
 loop-i-preserved c =
     let i = c.loop-i.i in
     (omega arith, turns.down_more c.args.cs.now c.args.x c.loop-i.a i (i - 1) (omega arith) (omega arith) c.loop-i.invariant.1)
-
-pub returns : goal.returns
-returns c =
-    c.loop-i.invariant.1 ∙ ap (λ (i : ℕ). down_s (drop i c.args.cs.now) c.args.x) (let z : c.loop-i.i ≡ 0 = omega arith in z)
