@@ -21,8 +21,7 @@ case $target in
 "$machine"-*) compile=${CC:-cc} run='' packages='gcc libc6-dev' ;;
 aarch64-*) compile='aarch64-linux-gnu-gcc -static' run=qemu-aarch64 packages='gcc-aarch64-linux-gnu libc6-dev-arm64-cross qemu-user' ;;
 *)
-    compile='x86_64-linux-gnu-gcc -static' packages='gcc-x86-64-linux-gnu libc6-dev-amd64-cross'
-    run=$(dirname "$(dirname "$(rt doc)")")/on/$machine/toolchain/bin/qemu-x86_64
+    compile='x86_64-linux-gnu-gcc -static' run=qemu-x86_64 packages='gcc-x86-64-linux-gnu libc6-dev-amd64-cross qemu-user'
     ;;
 esac
 out=target/board/$target

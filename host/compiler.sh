@@ -1,6 +1,6 @@
 # compiler.sh, read by the other scripts of this folder (. host/compiler.sh): how to compile and run for x86-64, for which the proved
 # library is. Sets cc, cxx and run, each a command of words: on x86-64 the compilers of CC and CXX, and nothing before a program; elsewhere
-# a cross compiler, and the kit's emulator. What is missing is installed by apt-get.
+# a cross compiler, and Debian's emulator. What is missing is installed by apt-get.
 
 die() { printf '%s: %s\n' "$0" "$*" >&2; exit 2; }
 
@@ -48,7 +48,7 @@ x86_64)
     cc='x86_64-linux-gnu-gcc -static' cxx=x86_64-linux-gnu-g++
     needs_compiler c "$cc" gcc-x86-64-linux-gnu libc6-dev-amd64-cross
     needs_compiler c++ "$cxx" g++-x86-64-linux-gnu
-    run=$(dirname "$(dirname "$(rt doc)")")/on/$(uname -m)/toolchain/bin/qemu-x86_64
-    [ -x "$run" ] || die "the kit has no emulator at $run"
+    run=qemu-x86_64
+    command -v $run >/dev/null || { fetch qemu-user && command -v $run >/dev/null; } || die "there is no emulator $run"
     ;;
 esac

@@ -8,8 +8,8 @@ cd "$(dirname "$0")/.."
 . host/libm.sh
 run="$* $run"
 
-rt staticlib entries >&2
-library=target/staticlib/libentries.a
+(cd crates/entries_c && rt lib) </dev/null >&2
+library=crates/entries_c/out/libentries_c.a
 out=target/host
 mkdir -p "$out"
 awk -f host/kinds.awk kinds.txt >"$out/kinds.h"

@@ -73,7 +73,7 @@ fn block_of(line: &str) -> Option<(u64, u64)> {
 
 fn file_of(program: &Program) -> io::Result<PathBuf> {
     Ok(match program {
-        Program::Named(name) => repository()?.join("target/bin").join(name),
+        Program::Named(name) => repository()?.join("crates").join(name).join("out").join(name),
         Program::File(path) => path.clone(),
     })
 }
