@@ -4,6 +4,7 @@ use mathlib.Core.List.{List}
 use Prim.Native.Nat.{ℕ}
 use contract.Lifetimes.{Lfts}
 use denote.Ref.{Bor}
+use denote.MutBor.{MutBor}
 use Rattle.records.specs.declared.Report.{Report}
 use Rattle.records.proofs.StepLaws.{did_same}
 use Rattle.stream.proofs.batch.Reads as batch
@@ -21,6 +22,6 @@ pub rest_determined : (κs : Lfts 2) (a : _) (r r' : Bor (List ℕ)) (s s' : _) 
 rest_determined κs a r r' s s' p q = ((p.tail ∙ sym q.tail, p.place ∙ sym q.place), p.buffer ∙ sym q.buffer)
 
 -- the front and its place; the bytes behind it are no longer the contract's to speak of, since the lent slice lives on in what is handed back
-pub front_determined : (κs : Lfts 2) (a : _) (r r' : Bor (List ℕ)) (s s' : _) → front.Post κs a r s → front.Post κs a r' s' →
+pub front_determined : (κs : Lfts 2) (a : _) (r r' : MutBor (List ℕ)) (s s' : _) → front.Post κs a r s → front.Post κs a r' s' →
     (r.now ≡ r'.now) × (r.ref_ptr ≡ r'.ref_ptr)
 front_determined κs a r r' s s' p q = (p.bytes ∙ sym q.bytes, p.place ∙ sym q.place)
