@@ -4,7 +4,7 @@ use mathlib.Core.List.{List}
 use Prim.Native.Nat.{ℕ, ◌+◌, ◌-◌, ◌≤◌, ◌<◌}
 use native.Mathlib.Omega.{arith}
 use lib.ListN.{length, take, drop, length-drop}
-use lib.Seq.{sets, sets-eq, length-sets, drop-drop, take_at, take_all}
+use lib.Seq.{sets, sets-eq, length-sets, drop-drop, take_at}
 use Rattle.digits.proofs.StoreLaws.{sets_append}
 use Rattle.records.specs.Tally.{nothing, ◌⊞◌}
 use Rattle.records.specs.Run.{Out, ahead, run_by}
@@ -117,6 +117,3 @@ module _ (S : List ℕ → ℕ → Out) (law : Lawful S) (s first b : List ℕ) 
 module _ (S : List ℕ → ℕ → Out) (law : Lawful S) (s : List ℕ) (room n : ℕ) (counts : n ≡ (run_by S s room).tally.read) where
   pub read_in : n ≤ length s
   read_in = omega (arith, (by_within S law s room).read)
-
-  pub unread : take (length s - n) (drop n s) ≡ drop (run_by S s room).tally.read s
-  unread = let d = length-drop n s in take_all (length s - n) (drop n s) (omega arith) ∙ ap (λ (k : ℕ). drop k s) counts

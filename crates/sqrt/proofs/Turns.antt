@@ -1,6 +1,6 @@
 -- The loop of `nearest_root`: each turn takes two binary digits more of a * 2 ^ 52, and finds one more of the root. Assumes nothing.
 use mathlib.Core.Path.{◌≡◌, ap, ◌∙◌, subst}
-use Prim.Native.Nat.{ℕ, zero, suc, ◌+◌, ◌-◌, ◌*◌, ◌/◌, ◌%◌, ◌^◌, ◌≤◌, ◌<◌}
+use Prim.Native.Nat.{ℕ, ◌+◌, ◌-◌, ◌*◌, ◌/◌, ◌%◌, ◌^◌, ◌≤◌, ◌<◌}
 use native.Mathlib.Nat.{lt_of_lt_of_le, pow-suc}
 use native.Mathlib.Numerals.{add-one}
 use native.Mathlib.Omega.{arith}
@@ -14,13 +14,7 @@ pub record Taken (a left root rest i : ℕ) : Type 0 where
   pub word : left < 2 ^ 64
   pub turns : i ≤ 53
 
-pub at_first : (a : ℕ) → a < 2 ^ 54 → Taken a (a * 0x400) 0 0 0
-at_first a h = record { parts = omega arith; within = omega arith; short = omega arith; word = omega arith; turns = omega arith }
-
 module _ (a left root rest i : ℕ) (t : Taken a left root rest i) where
-  pub root_short : root < 2 ^ 53
-  root_short = lt_of_lt_of_le t.short (pow_mono t.turns)
-
   pub root_shorter : i < 53 → root < 2 ^ 52
   root_shorter h = lt_of_lt_of_le t.short (pow_mono (let k : i ≤ 52 = omega arith in k))
 
@@ -67,13 +61,3 @@ module _ (a left root rest i : ℕ) (t : Taken a left root rest i) where
     where
       all : (root * root + rest) * 2 ^ 64 + left ≡ a * 2 ^ 10 * 4 ^ 53 → root * root + rest ≡ a * 2 ^ 52
       all e = let w = t.word in omega arith
-
-  pub next_up : 53 ≤ i → root < rest → ((root + 1) * (root + 1) < a * 2 ^ 52 + (root + 1)) × (a * 2 ^ 52 ≤ (root + 1) * (root + 1) + (root + 1))
-  next_up h g = let e = whole h in let k = t.within in (omega arith, omega arith)
-
-  pub stays : 53 ≤ i → 0 < a → rest ≤ root → (root * root < a * 2 ^ 52 + root) × (a * 2 ^ 52 ≤ root * root + root)
-  stays h p g = let e = whole h in let k = some root rest p e g in (omega arith, omega arith)
-    where
-      some : (x y : ℕ) → 0 < a → x * x + y ≡ a * 2 ^ 52 → y ≤ x → 0 < x
-      some zero y p e g = omega arith
-      some (suc x) y p e g = omega arith
