@@ -10,8 +10,7 @@ use lib.ListN.{length, take}
 use mir.Syntax.{w64}
 use mir.Val.{to_z, of_z, SFits}
 use mir.ValLaws.{to_z-of_z}
-use Rattle.io.specs.Counts.{clamp_len}
-use Rattle.libc.specs.Io.{Moved}
+use Rattle.session.specs.Moved.{Moved, clamp_len}
 use Rattle.replies.specs.Table.{table}
 use Rattle.decide.specs.Decide.{after_s, at_end_s}
 use Rattle.decide.specs.declared.Next.{Next}

@@ -7,8 +7,7 @@ use lib.IntN.{ℤ}
 use lib.ListN.{length, take, length-append, length-drop}
 use mir.Syntax.{w64}
 use mir.Val.{to_z, of_z, SFits}
-use Rattle.io.specs.Counts.{clamp_len}
-use Rattle.libc.specs.Io.{Moved}
+use Rattle.session.specs.Moved.{Moved, clamp_len}
 use Rattle.replies.specs.Table.{table}
 use Rattle.stream.proofs.BatchLaws.{table_narrow, enough_room}
 use Rattle.records.proofs.StopLaws.{left_short}
