@@ -72,15 +72,15 @@ pub const GROUPS: &[Group] = &[
     },
     Group {
         rust: &["log.rs"],
-        specs: &["log/specs/Log.antt"],
+        specs: &["logarithm/specs/Log.antt"],
         lent: &[],
-        code: &["log/src/lib.rt"],
+        code: &["logarithm/src/lib.rt"],
     },
     Group {
         rust: &["logf.rs"],
-        specs: &["log/specs/Logf.antt"],
+        specs: &["logarithm/specs/Logf.antt"],
         lent: &[],
-        code: &["log/src/single.rt"],
+        code: &["logarithm/src/single.rt"],
     },
     Group {
         rust: &["pow.rs"],

@@ -188,7 +188,7 @@ mod tests {
     use super::*;
 
     const TEXT: &str = "-- erf.rs: 0x12345678 is no word
-use words.specs.F64.{_⊕_, bits, 0·5}
+use words.specs.F64.{◌⊕◌, bits, 0·5}
 
 abbrev pub SNUM : List Float
 SNUM =
