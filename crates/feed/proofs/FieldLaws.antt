@@ -2,7 +2,7 @@
 use mathlib.Core.Path.{◌≡◌, refl, sym, ap, ◌∙◌}
 use mathlib.Core.Bool.{true, false}
 use mathlib.Core.List.{List, [], ◌∷◌, ◌++◌, append-nil}
-use mathlib.Core.Logic.{◌⊎◌, ⊎_elim}
+use mathlib.Core.Logic.{⊎_elim}
 use Prim.Native.Nat.{ℕ, suc, ◌+◌, ◌-◌, ◌/◌, ◌%◌, ◌≤◌, ◌<◌}
 use native.Mathlib.Omega.{arith}
 use borrow.Author.Tests.{lt-ltb, le-ltb}
@@ -12,7 +12,7 @@ use Rattle.digits.specs.Digits.{word, digits}
 use Rattle.digits.proofs.DigitLaws.{digits_more, length_digits}
 use Rattle.records.specs.Codes.{DONE, UNKNOWN}
 use Rattle.records.specs.Row.{Row, row_in}
-use Rattle.feeding.specs.Feed.{State, Open, Stopped, begun, Call, ends, goes, takes, call, Close, close}
+use Rattle.feeding.specs.Feed.{State, Open, Stopped, begun, ends, goes, takes, call, close}
 use Rattle.feeding.proofs.TakeLaws.{le_or, call_open}
 use Rattle.feeding.proofs.RecordLaws.{takes_start}
 use Rattle.feeding.proofs.Promised.{stays_stopped, no_start}

@@ -1,7 +1,7 @@
 -- A batch over a piece, and what it left: the report of a call that held nothing. Over any table. Assumes nothing.
 use mathlib.Core.Path.{◌≡◌, refl, sym, ap, ◌∙◌, subst}
 use mathlib.Core.List.{List, [], ◌∷◌, ◌++◌, append-nil}
-use Prim.Native.Nat.{ℕ, suc, ◌+◌, ◌-◌, ◌≤◌, ◌<◌}
+use Prim.Native.Nat.{ℕ, ◌+◌, ◌-◌, ◌≤◌, ◌<◌}
 use native.Mathlib.Omega.{arith}
 use lib.ListN.{length, drop, get_or, length-drop}
 use lib.Seq.{sets, get_or-drop}
@@ -14,7 +14,7 @@ use Rattle.records.specs.declared.Report.{Report}
 use Rattle.records.specs.declared.Tally.{Tally}
 use Rattle.records.proofs.RunLaws.{run_within}
 use Rattle.records.proofs.SplitLaws.{run_ends}
-use Rattle.feeding.specs.Feed.{State, Call, goes, takes}
+use Rattle.feeding.specs.Feed.{Call, goes, takes}
 use Rattle.feeding.proofs.RecordLaws.{ending, takes_run, refused}
 use Rattle.feed.specs.Fields.{fields}
 use Rattle.feed.specs.Post.{Pushed}

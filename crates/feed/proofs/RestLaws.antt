@@ -11,9 +11,9 @@ use Rattle.digits.specs.Digits.{digits}
 use Rattle.digits.proofs.StoreLaws.{sets_append}
 use Rattle.records.specs.Codes.{DONE, FULL}
 use Rattle.records.specs.Row.{Row, row_in}
-use Rattle.records.specs.Run.{Out, stop, run}
-use Rattle.feeding.specs.Feed.{State, Open, Call, ends, goes, takes}
-use Rattle.feeding.proofs.RecordLaws.{takes_rest, whole}
+use Rattle.records.specs.Run.{stop, run}
+use Rattle.feeding.specs.Feed.{Open, Call, ends, goes, takes}
+use Rattle.feeding.proofs.RecordLaws.{takes_rest}
 use Rattle.feed.specs.Fields.{fields}
 use Rattle.feed.specs.Post.{Pushed}
 use Rattle.feed.specs.declared.Fed.{Fed}

@@ -3,17 +3,16 @@
 use mathlib.Core.Path.{◌≡◌, refl, sym, ap, ◌∙◌}
 use mathlib.Core.Bool.{true}
 use mathlib.Core.List.{List, [], ◌∷◌, ◌++◌}
-use mathlib.Core.Logic.{◌⊎◌}
 use Prim.Native.Nat.{ℕ, zero, suc, ◌-◌, ◌≤◌, ◌<◌}
 use native.Mathlib.Omega.{arith}
 use borrow.Author.Tests.{ltb-true}
 use lib.ListN.{length, take, drop, get_or}
 use lib.Seq.{take-length}
-use Rattle.digits.specs.Digits.{word, digits}
+use Rattle.digits.specs.Digits.{digits}
 use Rattle.digits.proofs.DigitLaws.{word_short, digits_word}
 use Rattle.kinds.specs.Kinds.{longest_answer}
 use Rattle.records.specs.Row.{Row, row_in}
-use Rattle.records.specs.Run.{Out, one}
+use Rattle.records.specs.Run.{Out}
 use Rattle.replies.specs.Table.{table}
 use Rattle.replies.proofs.TableLaws.{reply_longest, width_small}
 use Rattle.feeding.specs.Feed.{State, Open, Stopped, begun, Call, turn, takes, call, close}
@@ -25,7 +24,6 @@ use Rattle.feeding.proofs.HostLaws.{host_good}
 use Rattle.feeding.proofs.Promised.{same_answers, progress}
 use Rattle.feed.specs.Fields.{meant, fields}
 use Rattle.feed.specs.Pushes.{Bytes, Pushes, pushes, PushedAsBatch}
-use Rattle.feed.specs.declared.Feed.{Feed}
 use Rattle.feed.proofs.FieldLaws.{meant_open}
 
 -- no answer is longer than the longest

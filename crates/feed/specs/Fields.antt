@@ -1,5 +1,5 @@
 -- A feed's fields, and what they mean: the bytes held as the number that they make, and how many they are.
-use Rattle.std.specs.Prelude.{ℕ, List, length, if◌then◌else◌}
+use Rattle.std.specs.Prelude.{length, if◌then◌else◌}
 use Rattle.words.specs.Tests.{◌<?◌}
 use Rattle.digits.specs.Digits.{word, digits}
 use Rattle.feeding.specs.Feed.{State, Open, Stopped}

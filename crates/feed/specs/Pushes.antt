@@ -4,7 +4,7 @@ use Rattle.kinds.specs.Kinds.{longest_answer}
 use Rattle.records.specs.Codes.{FULL}
 use Rattle.records.specs.Run.{run}
 use Rattle.replies.specs.Table.{table}
-use Rattle.feeding.specs.Feed.{Open, Call, call}
+use Rattle.feeding.specs.Feed.{Open, call}
 use Rattle.feeding.specs.Host.{Offer, Roomy, offering}
 use Rattle.feed.specs.Fields.{meant, fields}
 use Rattle.feed.specs.Post.{close_s}
