@@ -6,8 +6,7 @@ use mathlib.Core.Logic.{⊎_elim}
 use Prim.Native.Nat.{ℕ, suc, ◌+◌, ◌-◌, ◌/◌, ◌%◌, ◌≤◌, ◌<◌}
 use native.Mathlib.Omega.{arith}
 use borrow.Author.Tests.{lt-ltb, le-ltb}
-use lib.ListN.{length, take, drop, length-append, length-drop}
-use lib.Seq.{length-take-le}
+use lib.ListN.{length, length-append}
 use Rattle.digits.specs.Digits.{word, digits}
 use Rattle.digits.proofs.DigitLaws.{digits_more, length_digits}
 use Rattle.records.specs.Codes.{DONE, UNKNOWN}
@@ -16,20 +15,12 @@ use Rattle.feeding.specs.Feed.{State, Open, Stopped, begun, ends, goes, takes, c
 use Rattle.feeding.proofs.TakeLaws.{le_or, call_open}
 use Rattle.feeding.proofs.RecordLaws.{takes_start}
 use Rattle.feeding.proofs.Promised.{stays_stopped, no_start}
-use Rattle.feed.specs.Fields.{meant, fields}
+use Rattle.feed.specs.Fields.{meant}
 use Rattle.feed.specs.declared.Feed.{Feed}
 
 pub none_held : word 8 [] ≡ 0
 unfolding word
 none_held = refl
-
--- the feed that holds some bytes of a slice
-pub holding_is : (s : List ℕ) (at n x : ℕ) → at + n ≤ length s → x ≡ word 8 (take n (drop at s)) →
-    ◌≡◌ {A = Feed} (record { held = x; length = n }) (fields (Open (take n (drop at s))))
-holding_is s at n x h e =
-    let d = length-drop at s in
-    let l : n ≡ length (take n (drop at s)) = sym (length-take-le n (drop at s) (omega arith)) in
-    λ i. record { held = e i; length = l i }
 
 pub meant_open : (f : Feed) → f.length ≤ 8 → meant f ≡ Open (digits f.length f.held)
 unfolding meant
