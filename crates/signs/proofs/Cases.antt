@@ -4,7 +4,6 @@
 -- theorem (`FromCases`), with what is shown at the poles (`poles_of`). Assumes nothing.
 use mathlib.Core.Path.{◌≡◌, refl, sym, ap, ◌∙◌, subst}
 use mathlib.Core.Logic.{◌⊎◌, inl, inr}
-use mathlib.Core.List.{[]}
 use Prim.Native.Nat.{ℕ, zero, suc, ◌*◌, ◌/◌, ◌%◌, ◌<◌}
 use native.Mathlib.Nat.{zero-mul, zero-div, zero-lt-suc, mod-lt, lt_irrefl, eq-zero-or-pos}
 use native.Mathlib.Omega.{arith}

@@ -10,7 +10,7 @@ use native.Mathlib.Omega.{arith}
 use mathlib.Core.Bool.{Bool, true, false, not, ◌&&◌, cond}
 use lib.IntN.{ℤ}
 use lib.Dec.{T, T_not, leb, eqb, eqb→eq}
-use lib.Pow.{pow_pos, pow_mono}
+use lib.Pow.{pow_mono}
 use lib.Ieee.{Float, Format, nan, inf, fin, binary32, binary64, prec, low, hid, ones, top, up, down, is_nan, of_fields, of_bits, nan_bits}
 use lib.Ieee.Bits.{nan_bits_is}
 use lib.Ieee.Exact.{HasValue}

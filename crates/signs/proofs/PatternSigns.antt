@@ -6,7 +6,7 @@
 -- what is true of a format's values is true of its bits, whichever the functions are: the laws that end in -of. Assumes nothing.
 use mathlib.Core.Path.{◌≡◌, sym, ap, ◌∙◌, subst}
 use mathlib.Core.Logic.{◌⊎◌}
-use Prim.Native.Nat.{ℕ, ◌+◌, ◌*◌, ◌/◌, ◌%◌, ◌^◌, ◌<◌}
+use Prim.Native.Nat.{ℕ, ◌+◌, ◌*◌, ◌%◌, ◌^◌, ◌<◌}
 use native.Mathlib.Omega.{arith}
 use mathlib.Core.Bool.{true}
 use lib.IntN.{ℤ, pos, negsuc}
@@ -22,7 +22,7 @@ use Rattle.tgamma.specs.Tgamma.{tgamma_s}
 use Rattle.tgamma.proofs.Fits.{tgamma_fits}
 use Rattle.tgammaf.specs.Tgammaf.{tgammaf_s}
 use Rattle.tgammaf.proofs.Narrowed.{tgammaf_fits}
-use Rattle.signs.specs.Pattern.{sign_bit, exponent, fraction, FiniteBits, NanBits}
+use Rattle.signs.specs.Pattern.{sign_bit, fraction, NanBits}
 use Rattle.signs.specs.Promises.{NoNan, SameSign, SignRule, AtPoles, Reports, Means, NoNanBits, SameSignBits, SignRuleBits, AtPolesBits, ReportsBits}
 use Rattle.signs.proofs.Fields.{finite_back, nan_back, pattern_same}
 use Rattle.signs.proofs.Signs.{no_nan, same_sign, sign_rule, reports, at_poles}

@@ -7,7 +7,7 @@
 use mathlib.Core.Path.{◌≡◌, sym, ap, subst}
 use mathlib.Core.Logic.{◌⊎◌, inl, inr}
 use lib.IntN.{ℤ, pos, negsuc}
-use lib.Ieee.{Float, nan, inf, fin, binary32, binary64}
+use lib.Ieee.{nan, inf, fin, binary32, binary64}
 use lib.Ieee.Fits.{fits_widens}
 use Rattle.lgamma.specs.Plan.{Answer}
 use Rattle.lgamma.specs.Lgamma64.{lgamma_s}
