@@ -1,14 +1,13 @@
--- What the entries of the feed leave, by the feed's length; and that its 32 bytes are read and written whole. Assumes nothing.
-use mathlib.Core.Path.{◌≡◌, refl, sym, ap, ◌∙◌, subst}
+-- What the entries of the feed leave; and that its 32 bytes are read and written whole. Assumes nothing.
+use mathlib.Core.Path.{◌≡◌, ◌∙◌, subst}
 use mathlib.Core.List.{List, ◌++◌, append_assoc}
 use Prim.Native.Nat.{ℕ}
 use native.Mathlib.Omega.{arith}
-use borrow.Author.Tests.{eq-eqb, ne_eqb}
+use borrow.Author.Tests.{eq-eqb}
 use lib.ListN.{length, take, drop}
 use lib.Seq.{sets}
 use Rattle.digits.specs.Digits.{word, digits}
 use Rattle.digits.proofs.DigitLaws.{word_take_all}
-use Rattle.feed.specs.Fields.{fields}
 use Rattle.feed.specs.Post.{Pushed, Shut, push_s, close_s}
 use Rattle.feed.specs.declared.Feed.{Feed}
 use Rattle.feed.specs.declared.Fed.{Fed}
@@ -34,9 +33,6 @@ stored f t w b b₁ b₂ b₃ b₄ e p q r s =
     ∙ append_assoc (x ++ y) (digits 8 t) (digits 8 w) ∙ append_assoc x y (digits 8 t ++ digits 8 w)
 
 module _ (feed piece answers : List ℕ) where
-  pub push_refused : (length feed ≡ 32 → ⊥) → Kept (push_bytes_s feed piece answers) 10 feed answers
-  push_refused h = rw (ne_eqb (length feed) 32 h) (record { code = refl; feed = refl; answers = refl })
-
   pub push_kept : (f : Feed) (t : Fed) (b a : List ℕ) → length feed ≡ 32 → f ≡ feed_at feed → Pushed (push_s f piece answers) t answers a →
       b ≡ feed_bytes t.feed t.taken t.written → Kept (push_bytes_s feed piece answers) t.code b a
   push_kept f t b a h i d e =
@@ -44,9 +40,6 @@ module _ (feed piece answers : List ℕ) where
       rw (eq-eqb (length feed) 32 h) (record { code = p.code; feed = rw (← p.feed, ← p.taken, ← p.written) e; answers = p.buffer })
 
 module _ (feed : List ℕ) where
-  pub close_refused : (length feed ≡ 32 → ⊥) → Told (close_bytes_s feed) 10 feed
-  close_refused h = rw (ne_eqb (length feed) 32 h) (record { code = refl; feed = refl })
-
   pub close_told : (f : Feed) (t : Closed) (b : List ℕ) → length feed ≡ 32 → f ≡ feed_at feed → Shut (close_s f) t → b ≡ feed_bytes t.feed 0 0 →
       Told (close_bytes_s feed) t.code b
   close_told f t b h i d e =

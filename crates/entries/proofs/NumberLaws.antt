@@ -1,9 +1,9 @@
 -- Numbers of eight bytes written one behind the other, from the front of a lent slice to its end. Assumes nothing.
-use mathlib.Core.Path.{◌≡◌, sym, ◌∙◌, ap}
+use mathlib.Core.Path.{◌≡◌, ◌∙◌, ap}
 use mathlib.Core.List.{List, ◌++◌, append-nil}
 use Prim.Native.Nat.{ℕ, ◌+◌, ◌≤◌}
 use native.Mathlib.Omega.{arith}
-use lib.ListN.{length, drop, length-append, drop_of_length-le}
+use lib.ListN.{length, length-append, drop_of_length-le}
 use lib.Seq.{sets, sets-eq}
 use Rattle.digits.specs.Digits.{digits}
 use Rattle.digits.proofs.DigitLaws.{length_digits}

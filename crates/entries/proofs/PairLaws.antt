@@ -1,8 +1,8 @@
--- What `rvt_erf_erfc` leaves, by its two cases: a pair is written whole, so that nothing is left of what stood in it. Assumes nothing.
-use mathlib.Core.Path.{◌≡◌, refl, ◌∙◌, ap}
+-- What `rvt_erf_erfc` leaves: a pair is written whole, so that nothing is left of what stood in it. Assumes nothing.
+use mathlib.Core.Path.{◌≡◌, refl}
 use mathlib.Core.List.{List}
 use Prim.Native.Nat.{ℕ}
-use borrow.Author.Tests.{eq-eqb, ne_eqb}
+use borrow.Author.Tests.{eq-eqb}
 use lib.ListN.{length}
 use lib.Seq.{sets}
 use lib.Ieee.{binary64}
@@ -13,9 +13,6 @@ use Rattle.entries.specs.Pair.{pair_of, pair_s, Given}
 use Rattle.entries.proofs.NumberLaws.{first, further, filled}
 
 module _ (x : ℕ) (pair : List ℕ) where
-  pub pair_refused : (length pair ≡ 16 → ⊥) → Given (pair_s x pair) 10 pair
-  pair_refused h = rw (ne_eqb (length pair) 16 h) (record { code = refl; bytes = refl })
-
   pub pair_given : (erf erfc : ℕ) (b₁ b₂ : List ℕ) → length pair ≡ 16 → erf ≡ on_bits binary64 erf_s x → erfc ≡ on_bits binary64 erfc_s x →
       b₁ ≡ sets pair 0 (digits 8 erf) → b₂ ≡ sets b₁ 8 (digits 8 erfc) → Given (pair_s x pair) 0 b₂
   unfolding pair_of

@@ -1,8 +1,8 @@
--- What `rvt_batch` leaves, by its two cases; and that a report is written whole, so that nothing is left of what stood in it. Assumes nothing.
-use mathlib.Core.Path.{◌≡◌, refl, sym, ◌∙◌}
+-- What `rvt_batch` leaves; and that a report is written whole, so that nothing is left of what stood in it. Assumes nothing.
+use mathlib.Core.Path.{◌≡◌, ◌∙◌}
 use mathlib.Core.List.{List, append_assoc}
 use Prim.Native.Nat.{ℕ}
-use borrow.Author.Tests.{eq-eqb, ne_eqb}
+use borrow.Author.Tests.{eq-eqb}
 use lib.ListN.{length}
 use lib.Seq.{sets}
 use Rattle.digits.specs.Digits.{digits}
@@ -20,9 +20,6 @@ told n i w b b₁ b₂ b₃ e p q r =
     filled b b₃ _ 24 e (further b b₂ b₃ _ 16 w (further b b₁ b₂ _ 8 i (first b b₁ n p) q) r) ∙ append_assoc (digits 8 n) (digits 8 i) (digits 8 w)
 
 module _ (requests answers report : List ℕ) where
-  pub made_refused : (length report ≡ 24 → ⊥) → Made (call_s requests answers report) 10 answers report
-  made_refused h = rw (ne_eqb (length report) 24 h) (record { code = refl; answers = refl; report = refl })
-
   pub made_done : (t : Report) (a b : List ℕ) → length report ≡ 24 → Did (batch_s requests answers) t 0 answers a →
       b ≡ report_of t.tally.records t.tally.read t.tally.written → Made (call_s requests answers report) t.code a b
   made_done t a b h d e =

@@ -4,14 +4,14 @@ use mathlib.Core.List.{List, [], ◌∷◌, ◌++◌, map, append-nil}
 use Prim.Native.Nat.{ℕ, ◌+◌, ◌^◌, ◌≤◌, ◌<◌}
 use native.Mathlib.Omega.{arith}
 use borrow.Author.Tests.{eq-eqb}
-use lib.ListN.{length, take, drop, length-append, length-drop, take-append-drop}
+use lib.ListN.{length, take, drop, length-append, length-drop}
 use lib.Seq.{sets, sets-eq, take_at, drop_at, drop-drop}
 use Rattle.digits.specs.Digits.{word, digits}
 use Rattle.digits.proofs.DigitLaws.{length_digits, word_digits, word_below}
 use Rattle.kinds.specs.Kinds.{longest_answer}
 use Rattle.replies.specs.Table.{table}
-use Rattle.feeding.specs.Feed.{State, Open, Stopped, Call, call, close}
-use Rattle.feeding.specs.Host.{Offer, Roomy}
+use Rattle.feeding.specs.Feed.{State, Open, Stopped, Call, call}
+use Rattle.feeding.specs.Host.{Roomy}
 use Rattle.feeding.specs.Promises.{Good}
 use Rattle.feeding.proofs.TakeLaws.{begun_none}
 use Rattle.feeding.proofs.HostLaws.{length_take_in}

@@ -1,10 +1,9 @@
 -- What `rvt_feed_push` and `rvt_feed_close` do: the feed's methods, with the feed and its counts as 32 bytes that the host lends. A feed of another length
 -- is code 10, and nothing is touched.
-use Rattle.std.specs.Prelude.{◌≡◌, List, [], ◌++◌, ℕ, length, drop, eqb}
+use Rattle.std.specs.Prelude.{◌≡◌, List, ◌++◌, ℕ, length, drop, eqb}
 use Rattle.std.proofs.lemmas.List.Edits.{sets}
 use Rattle.words.specs.Pick.{pick}
 use Rattle.digits.specs.Digits.{word, digits}
-use Rattle.feeding.specs.Feed.{Call, Close}
 use Rattle.feed.specs.Fields.{fields}
 use Rattle.feed.specs.Post.{push_s, close_s}
 use Rattle.feed.specs.declared.Feed.{Feed}
