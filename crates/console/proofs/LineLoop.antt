@@ -7,7 +7,7 @@ use Prim.Native.Nat.{ℕ, ◌+◌, ◌-◌, ◌*◌, ◌≤◌, ◌<◌}
 use native.Mathlib.Numerals.{add-one}
 use native.Mathlib.Omega.{arith}
 use lib.ListN.{length, take, drop, get_or, length-drop, drop_of_length-le}
-use lib.Seq.{sets, length-sets, take-suc, take_all, length-take-le, drop-append-le}
+use lib.Seq.{sets, take-suc, take_all, length-take-le, drop-append-le}
 use Rattle.replies.specs.Table.{table}
 use Rattle.text.specs.Text.{NEWLINE, closed, text_of, Cut, cut}
 use Rattle.text.specs.Reply.{reply_to}
@@ -40,9 +40,6 @@ looked_none s first = record {
   light = omega arith;
   wrote = record { place = refl; buffer = refl };
 }
-
-pub looked_same : (s first out : List ℕ) (i read written : ℕ) → Looked s first out i read written → length out ≡ length first
-looked_same s first out i read written l = ap length l.wrote.buffer ∙ length-sets first 0 (said (take i s))
 
 -- the same by other names
 pub looked_as : (s first o p : List ℕ) (i r t w v : ℕ) → p ≡ o → t ≡ r → v ≡ w → Looked s first o i r w → Looked s first p i t v
