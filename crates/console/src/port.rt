@@ -10,7 +10,7 @@ use std::io::{Stdin, Stdout};
 // Reads once. A read into no room would look like the end of the input.
 pub(crate) fn read(mut input: Stdin, room: &mut [u8]) -> isize
     requires { 0 < length room.old }
-    ensures { Moved (length room.new) result }
+    ensures { Moved (length room.old) result }
 {
     port::read(&mut input, room)
 }

@@ -1,8 +1,5 @@
 -- `console::pass` meets its contract. Assumes nothing.
-use mathlib.Core.Path.{subst}
-use Prim.Native.Nat.{ℕ}
 use native.Mathlib.Omega.{arith}
-use Rattle.session.specs.Moved.{Moved}
 use Rattle.console.proofs.PassLaws.{turn_passed}
 use Rattle.console.proofs.pass.Goals as goal
 
@@ -13,4 +10,4 @@ returns c =
     let g = c.read-got in
     let w = c.answer-t in
     turn_passed a.have n.result a.buf.now g.new.room w.new.buf g.result c.at_end.result w.result c.after.result (omega (arith, c.requires.0))
-    (record { sfits = g.type_inv }) g.auto.room (subst (λ (k : ℕ). Moved k g.result) g.auto.room g.ensures) n.ensures.value c.at_end.ensures w.ensures c.after.ensures
+    (record { sfits = g.type_inv }) g.auto.room g.ensures n.ensures.value c.at_end.ensures w.ensures c.after.ensures

@@ -1,8 +1,5 @@
 -- `serve::pass` meets its contract. Assumes nothing.
-use mathlib.Core.Path.{subst}
-use Prim.Native.Nat.{ℕ}
 use native.Mathlib.Omega.{arith}
-use Rattle.session.specs.Moved.{Moved}
 use Rattle.serve.proofs.PassLaws.{batch_passed}
 use Rattle.serve.proofs.pass.Goals as goal
 
@@ -13,5 +10,5 @@ returns c =
     let g = c.read-got in
     let w = c.answer-t in
     batch_passed a.have n.result a.buf.now g.new.room a.answers.now w.new.buf w.new.answers g.result w.result c.after.result
-    (omega (arith, c.requires)) (record { sfits = g.type_inv }) g.auto.room (subst (λ (k : ℕ). Moved k g.result) g.auto.room g.ensures) n.ensures.value
+    (omega (arith, c.requires)) (record { sfits = g.type_inv }) g.auto.room g.ensures n.ensures.value
     w.ensures c.after.ensures
