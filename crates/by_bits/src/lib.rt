@@ -45,7 +45,7 @@ pub fn tgamma_bits(x: u64) -> u64
 }
 
 // A log-gamma answer by bits: the value's, and the sign, 1 or -1.
-#[derive(Drop)]
+#[derive(Clone, Copy)]
 pub struct SignedBits {
     pub value: u64,
     pub sign: i32,
@@ -86,7 +86,7 @@ pub fn erfc_bits(x: u64) -> u64
 }
 
 // erf and erfc of one number, by bits.
-#[derive(Drop)]
+#[derive(Clone, Copy)]
 pub struct PairBits {
     pub erf: u64,
     pub erfc: u64,
@@ -109,7 +109,7 @@ pub fn erf_erfc_bits(x: u64) -> PairBits
 }
 
 // The f32 functions, on the 32 bits of an f32.
-#[derive(Drop)]
+#[derive(Clone, Copy)]
 pub struct SignedBitsF32 {
     pub value: u32,
     pub sign: i32,

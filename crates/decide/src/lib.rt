@@ -12,7 +12,7 @@ const UNKNOWN: u8 = 1;
 pub const BROKEN: u8 = 255;
 
 // What comes after a turn: another, with so many bytes carried over; the end, with a stop code; or the end without one.
-#[derive(Drop)]
+#[derive(Clone, Copy)]
 pub enum Next {
     Go(usize),
     Close(u8),
@@ -40,7 +40,7 @@ pub fn after(got: isize, code: u8, kept: usize, sent: bool) -> Next
 }
 
 // The first `length` of two bytes.
-#[derive(Drop)]
+#[derive(Clone, Copy)]
 pub struct Last {
     pub bytes: [u8; 2],
     pub length: usize,

@@ -8,7 +8,7 @@ ghost use Rattle.words.specs.Pick.{pick};
 ghost use Rattle.distance.specs.Distance.{place_s, distance_s};
 
 // A distance with code 0, or code 4 and 0 where there is none.
-#[derive(Drop)]
+#[derive(Clone, Copy)]
 pub struct Apart {
     pub code: u8,
     pub distance: u64,

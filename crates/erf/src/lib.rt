@@ -183,7 +183,7 @@ fn signed(sign: u32, y: f64) -> f64
 }
 
 // erf and erfc of one number.
-#[derive(Drop)]
+#[derive(Clone, Copy)]
 pub struct Pair {
     pub erf: f64,
     pub erfc: f64,

@@ -17,14 +17,14 @@ use stream::batch;
 
 // The first `length` bytes of a record, as the number that they make, the lowest first. Where they are no start of a known record, as with a
 // length of 9, the feed has stopped.
-#[derive(Drop)]
+#[derive(Clone, Copy)]
 pub struct Feed {
     pub held: u64,
     pub length: usize,
 }
 
 // What a call leaves: the next feed, how much of the piece it took, how much it wrote, and a code.
-#[derive(Drop)]
+#[derive(Clone, Copy)]
 pub struct Fed {
     pub feed: Feed,
     pub taken: usize,
@@ -33,7 +33,7 @@ pub struct Fed {
 }
 
 // What the call that closes a feed leaves.
-#[derive(Drop)]
+#[derive(Clone, Copy)]
 pub struct Closed {
     pub feed: Feed,
     pub code: u8,

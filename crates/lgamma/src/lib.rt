@@ -19,7 +19,7 @@ use words::bits::{get_low_word, sign, size_word};
 
 const PI: f64 = 3.14159265358979311600e+00; /* 0x400921FB, 0x54442D18 */
 
-#[derive(Drop)]
+#[derive(Clone, Copy)]
 pub struct LgammaR {
     pub value: f64,
     pub sign: i32,

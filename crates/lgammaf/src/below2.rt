@@ -91,7 +91,7 @@ const V: [f32; 6] = [
 ];
 
 // The Rust's i, 0 to 2, and y.
-#[derive(Drop)]
+#[derive(Clone, Copy)]
 pub enum Segment {
     Zero(f32),
     One(f32),

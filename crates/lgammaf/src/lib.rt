@@ -17,7 +17,7 @@ use words::bits::{sign_f32, size_bits};
 
 const PI: f32 = 3.1415927410e+00; /* 0x40490fdb */
 
-#[derive(Drop)]
+#[derive(Clone, Copy)]
 pub struct LgammafR {
     pub value: f32,
     pub sign: i32,

@@ -13,7 +13,7 @@ use poly::horner;
 use words::bits::{clear_low_word, get_high_word, with_set_high_word};
 
 // log2(|x|) is t1 + t2.
-#[derive(Drop)]
+#[derive(Clone, Copy)]
 pub struct Parts {
     pub t1: f64,
     pub t2: f64,

@@ -10,7 +10,7 @@ ghost use Rattle.records.specs.Tally.{nothing};
 use digits::put;
 
 // An answer before it is written: its first byte, then `width` bytes of `bits` and `more` bytes of `extra`.
-#[derive(Drop)]
+#[derive(Clone, Copy)]
 pub struct Reply {
     pub head: u8,
     pub width: usize,
@@ -36,7 +36,7 @@ pub fn write(s: &mut [u8], at: usize, r: Reply)
 }
 
 // How many records, or lines, a run took, and how many bytes it read and wrote.
-#[derive(Drop)]
+#[derive(Clone, Copy)]
 pub struct Tally {
     pub records: usize,
     pub read: usize,
@@ -44,7 +44,7 @@ pub struct Tally {
 }
 
 // A code, which says why a run stopped (specs/Codes), and its counts.
-#[derive(Drop)]
+#[derive(Clone, Copy)]
 pub struct Report {
     pub code: u8,
     pub tally: Tally,

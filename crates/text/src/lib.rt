@@ -15,7 +15,7 @@ use names::{COUNT, Row, name};
 pub use trip::{requests_of, text_of};
 
 // What a line asks for.
-#[derive(Drop)]
+#[derive(Clone, Copy)]
 pub enum Asked {
     Bad,
     Ask(u8, u64),

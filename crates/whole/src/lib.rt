@@ -11,7 +11,7 @@ use words::bits::{bits_of, bits_of_f32};
 const OUTSIDE: i32 = 0;
 
 // The whole part of x, 0 from size 2^31 on and for a NaN; and whether x has a fraction.
-#[derive(Drop)]
+#[derive(Clone, Copy)]
 pub struct WholePart {
     pub number: i32,
     pub fraction: bool,
