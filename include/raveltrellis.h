@@ -3,7 +3,7 @@
  * floats, from C and C++.
  *
  * The library is libraveltrellis.a as `bin/install` puts it beside this header, or
- * crates/entries_c/out/libentries_c.a as `rt lib`, in crates/entries_c, proves and writes it, for Linux on x86-64.
+ * crates/entries_c/out/libentries_c.a as `rt lib` proves and writes it there, for Linux on x86-64.
  * It allocates nothing, keeps nothing between calls, and calls nothing, so any number of threads may
  * use it at once.
  *
