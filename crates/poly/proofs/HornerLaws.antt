@@ -1,30 +1,33 @@
--- Horner's rule by the length of the list, in either format: what each return of `horner` and `hornerf` gives. Assumes nothing.
+-- Horner's rule by the length of the list, in either format and over any type of numbers: what each return of `horner` gives. Assumes nothing.
 use mathlib.Core.Path.{◌≡◌, refl, ap, ◌∙◌}
 use mathlib.Core.List.{List, [], ◌∷◌}
 use Prim.Native.Nat.{◌<◌, ◌-◌}
 use native.Mathlib.Omega.{arith}
 use lib.ListN.{length, get_or, take, drop}
-use lib.Ieee.{Float, nan, Format, of_bits, add, mul}
+use Rattle.std.specs.Prelude.{map}
+use lib.Ieee.{Float, Format, of_bits, add, mul}
 use borrow.Author.Rules.{part_to_end}
 use Rattle.poly.specs.Horner.{horner_s}
 
-pub none : (f : Format) (l : List Float) (x : Float) → length l ≡ 0 → of_bits f 0 ≡ horner_s f l x
-unfolding horner_s
-none f [] x h = refl
-none f (c ∷ cs) x h = absurd (omega (arith, h))
+module _ {A : Type 0} (float : A → Float) (f : Format) where
+  pub none : (l : List A) (x : Float) → length l ≡ 0 → of_bits f 0 ≡ horner_s f (map float l) x
+  unfolding horner_s
+  none [] x h = refl
+  none (c ∷ cs) x h = absurd (omega (arith, h))
 
-pub one : (f : Format) (l : List Float) (x : Float) → length l ≡ 1 → get_or l 0 nan ≡ horner_s f l x
-unfolding horner_s
-one f [] x h = absurd (omega (arith, h))
-one f (c ∷ []) x h = refl
-one f (c ∷ (d ∷ cs)) x h = absurd (omega (arith, h))
+  pub one : (l : List A) (c : A) (x : Float) → length l ≡ 1 → c ≡ get_or l 0 c → float c ≡ horner_s f (map float l) x
+  unfolding horner_s
+  one [] c x h e = absurd (omega (arith, h))
+  one (a ∷ []) c x h e = ap float e
+  one (a ∷ (b ∷ cs)) c x h e = absurd (omega (arith, h))
 
--- r is the value of the list behind its first coefficient
-pub more :
-    (f : Format) (l : List Float) (x r : Float) → 1 < length l → r ≡ horner_s f (take (length l - 1) (drop 1 l)) x
-    → add f (get_or l 0 nan) (mul f x r) ≡ horner_s f l x
-unfolding horner_s
-more f [] x r h e = absurd (omega (arith, h))
-more f (c ∷ []) x r h e = absurd (omega (arith, h))
-more f (c ∷ (d ∷ cs)) x r h e =
-    ap (λ (v : Float). add f c (mul f x v)) (e ∙ ap (λ (l : List Float). horner_s f l x) (part_to_end (c ∷ (d ∷ cs)) 1))
+  -- r is the value of the list behind its first coefficient c
+  pub more :
+      (l : List A) (c : A) (x r m s : Float) → 1 < length l → c ≡ get_or l 0 c
+      → r ≡ horner_s f (map float (take (length l - 1) (drop 1 l))) x → m ≡ mul f x r → s ≡ add f (float c) m → s ≡ horner_s f (map float l) x
+  unfolding horner_s
+  more [] c x r m s h e u v w = absurd (omega (arith, h))
+  more (a ∷ []) c x r m s h e u v w = absurd (omega (arith, h))
+  more (a ∷ (b ∷ cs)) c x r m s h e u v w =
+      w ∙ ap (λ (z : A). add f (float z) m) e ∙ ap (add f (float a)) v
+      ∙ ap (λ (z : Float). add f (float a) (mul f x z)) (u ∙ ap (λ (l : List A). horner_s f (map float l) x) (part_to_end (a ∷ (b ∷ cs)) 1))

@@ -17,3 +17,4 @@ pub mod F64
 pub mod F32
 pub mod Bits
 pub mod Fabs
+pub mod Real

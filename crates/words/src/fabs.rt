@@ -1,22 +1,11 @@
-// fabs, fabsf: the sign bit cleared. A NaN leaves first: where a caller has looked for one already, the compiler drops the test, and one
-// instruction is left.
+// fabs, fabsf: the sign bit cleared.
 ghost use Rattle.std.specs.Prelude.{◌≡◌};
 ghost use Rattle.words.specs.Fabs.{fabs_s};
 
-pub fn fabs(x: f64) -> f64
-    ensures { result ≡ fabs_s x }
-{
-    if x != x {
-        return x;
-    }
-    f64::from_bits(f64::to_bits(x) % 0x8000_0000_0000_0000)
-}
+use crate::real::Real;
 
-pub fn fabsf(x: f32) -> f32
-    ensures { result ≡ fabs_s x }
+pub fn fabs<R: Real>(x: R) -> R
+    ensures { R.float result ≡ fabs_s (R.float x) }
 {
-    if x != x {
-        return x;
-    }
-    f32::from_bits(f32::to_bits(x) % 0x8000_0000)
+    x.fabs()
 }

@@ -3,3 +3,4 @@
 
 pub mod bits;
 pub mod fabs;
+pub mod real;

@@ -3,4 +3,4 @@ use Rattle.std.proofs.Common.{length}
 use Rattle.poly.proofs.+horner.Given as goal
 
 abbrev pub decreases-horner : goal.decreases-horner
-decreases-horner l = length l.c.now
+decreases-horner g l = length l.c.now

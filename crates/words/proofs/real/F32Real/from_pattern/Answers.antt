@@ -1,7 +1,7 @@
--- `words::bits::of_bits_f32` meets its contract. Assumes nothing.
+-- `words::real::F32Real::from_pattern` meets its contract. Assumes nothing.
 use lib.Ieee.{binary32, div, of_bits}
 use Rattle.words.proofs.PatternLaws.{pattern_nan, pattern_not_nan}
-use Rattle.words.proofs.bits.of_bits_f32.Goals as goal
+use Rattle.words.proofs.real.F32Real.from_pattern.Goals as goal
 
 pub returns-then-n-gt2139095040 : goal.returns-then-n-gt2139095040
 unfolding div of_bits

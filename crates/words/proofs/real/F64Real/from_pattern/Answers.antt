@@ -1,7 +1,7 @@
--- `words::bits::of_bits` meets its contract. Assumes nothing.
+-- `words::real::F64Real::from_pattern` meets its contract. Assumes nothing.
 use lib.Ieee.{binary64, div, of_bits}
 use Rattle.words.proofs.PatternLaws.{pattern_nan, pattern_not_nan}
-use Rattle.words.proofs.bits.of_bits.Goals as goal
+use Rattle.words.proofs.real.F64Real.from_pattern.Goals as goal
 
 pub returns-then-n-gt9218868437227405312 : goal.returns-then-n-gt9218868437227405312
 unfolding div of_bits
