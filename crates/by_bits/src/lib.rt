@@ -14,7 +14,7 @@ ghost use Rattle.tgammaf.specs.Tgammaf.{tgammaf_s};
 ghost use Rattle.erff.specs.Erff.{erff_s, erfcf_s};
 ghost use Rattle.by_bits.specs.ByBits.{on_bits, value_on_bits, sign_on_bits};
 
-use words::bits::{bits_of, bits_of_f32, of_bits, of_bits_f32};
+use words::bits::{bits_of, of_bits};
 
 const NAN: u64 = 0x7ff8_0000_0000_0000;
 
@@ -124,9 +124,9 @@ pub fn lgammaf_r_bits(x: u32) -> SignedBitsF32
             sign: NAN_SIGN,
         };
     }
-    let t = lgammaf::lgammaf_r(of_bits_f32(x));
+    let t = lgammaf::lgammaf_r(of_bits(x));
     SignedBitsF32 {
-        value: bits_of_f32(t.value),
+        value: bits_of(t.value),
         sign: t.sign,
     }
 }
@@ -137,7 +137,7 @@ pub fn tgammaf_bits(x: u32) -> u32
     if is_nan_f32(x) {
         return NAN_F32;
     }
-    bits_of_f32(tgammaf::tgammaf(of_bits_f32(x)))
+    bits_of(tgammaf::tgammaf(of_bits(x)))
 }
 
 pub fn erff_bits(x: u32) -> u32
@@ -146,7 +146,7 @@ pub fn erff_bits(x: u32) -> u32
     if is_nan_f32(x) {
         return NAN_F32;
     }
-    bits_of_f32(erff::erff(of_bits_f32(x)))
+    bits_of(erff::erff(of_bits(x)))
 }
 
 pub fn erfcf_bits(x: u32) -> u32
@@ -155,5 +155,5 @@ pub fn erfcf_bits(x: u32) -> u32
     if is_nan_f32(x) {
         return NAN_F32;
     }
-    bits_of_f32(erff::erfcf(of_bits_f32(x)))
+    bits_of(erff::erfcf(of_bits(x)))
 }

@@ -10,9 +10,9 @@ ghost use Rattle.erf.specs.Plan.{erfc1_s, ratio_s, short_s, erfc2_s, small_s};
 ghost use Rattle.erff.specs.Erff.{erf32, erff_s, erfcf_s};
 
 use exp::single::expf;
-use poly::hornerf;
-use words::bits::{sign_f32, size_bits};
-use words::fabs::fabsf;
+use poly::horner;
+use words::bits::{sign, size_word};
+use words::fabs::fabs;
 
 const ERX: f32 = 8.4506291151e-01; /* 0x3f58560b */
 
@@ -106,9 +106,9 @@ const SB: [f32; 8] = [
 fn erfc1(x: f32) -> f32
     ensures { result ≡ erfc1_s erf32 x }
 {
-    let s = fabsf(x) - 1.0;
-    let p = hornerf(&PA, s);
-    let q = hornerf(&QA, s);
+    let s = fabs(x) - 1.0;
+    let p = horner(&PA, s);
+    let q = horner(&QA, s);
     1.0 - ERX - p / q
 }
 
@@ -117,9 +117,9 @@ fn ratio(ix: u32, s: f32) -> f32
     ensures { result ≡ ratio_s erf32 ix s }
 {
     if ix < 0x4036db6d {
-        return hornerf(&RA, s) / hornerf(&SA, s);
+        return horner(&RA, s) / horner(&SA, s);
     }
-    hornerf(&RB, s) / hornerf(&SB, s)
+    horner(&RB, s) / horner(&SB, s)
 }
 
 // x with its 13 low bits cleared, the Rust's mask 0xffffe000.
@@ -142,7 +142,7 @@ fn erfc2(ix: u32, x: f32) -> f32
     if ix < 0x3fa00000 {
         return erfc1(x);
     }
-    let a = fabsf(x);
+    let a = fabs(x);
     let s = 1.0 / (a * a);
     let z = short(a);
     // here, so that it does not stand between the two exponentials
@@ -155,7 +155,7 @@ fn small(x: f32) -> f32
     ensures { result ≡ small_s erf32 x }
 {
     let z = x * x;
-    hornerf(&PP, z) / hornerf(&QQ, z)
+    horner(&PP, z) / horner(&QQ, z)
 }
 
 // y with the sign of x.
@@ -172,8 +172,8 @@ pub fn erff(x: f32) -> f32
     if x != x {
         return x;
     }
-    let ix = size_bits(x);
-    let sign = sign_f32(x);
+    let ix = size_word(x);
+    let sign = sign(x);
     if ix >= 0x7f800000 {
         return 1.0 - 2.0 * (sign as f32) + 1.0 / x;
     }
@@ -197,8 +197,8 @@ pub fn erfcf(x: f32) -> f32
     if x != x {
         return x;
     }
-    let ix = size_bits(x);
-    let sign = sign_f32(x);
+    let ix = size_word(x);
+    let sign = sign(x);
     if ix >= 0x7f800000 {
         return 2.0 * (sign as f32) + 1.0 / x;
     }

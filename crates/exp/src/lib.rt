@@ -5,6 +5,7 @@
 // nearest to x / ln2; above 0.5 ln2 it is 1 or -1, above 2^-28 it is 0; up to there 1 + x. In f32: module `single`.
 #![tactic(auto)]
 
+pub mod real;
 pub mod single;
 
 ghost use Rattle.std.specs.Prelude.{◌≡◌};

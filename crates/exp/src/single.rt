@@ -6,10 +6,10 @@ ghost use Rattle.std.specs.Float.Ieee.{of_int};
 ghost use Rattle.exp.specs.Plan.{primary_s, multiple_s, reduced_s, plain_s};
 ghost use Rattle.exp.specs.Expf.{exp32, special_s, expf_s};
 
-use poly::hornerf;
+use poly::horner;
 use scalbn::single::scalbnf;
 use whole::wholef;
-use words::bits::{sign_f32, size_bits};
+use words::bits::{sign, size_word};
 
 const MINUS_HALF: f32 = -0.5;
 
@@ -30,7 +30,7 @@ fn primary(x: f32, hi: f32, lo: f32, k: i32) -> f32
     ensures { result ≡ primary_s exp32 x hi lo k }
 {
     let xx = x * x;
-    let c = x - xx * hornerf(&P, xx);
+    let c = x - xx * horner(&P, xx);
     let y = 1.0 + (x * c / (2.0 - c) - lo + hi);
     if k == 0 { y } else { scalbnf(y, k) }
 }
@@ -111,9 +111,9 @@ pub fn expf(x: f32) -> f32
     if x != x {
         return x;
     }
-    let hx = size_bits(x);
+    let hx = size_word(x);
     if hx >= 0x42aeac50 {
-        return special(x, hx, sign_f32(x));
+        return special(x, hx, sign(x));
     }
-    plain(x, hx, sign_f32(x))
+    plain(x, hx, sign(x))
 }

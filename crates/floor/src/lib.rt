@@ -7,7 +7,7 @@ ghost use Rattle.std.specs.Float.{binary32, binary64};
 ghost use Rattle.floor.specs.Floor.{floor_s};
 
 use std::num::{truncating_f32_to_i64, truncating_f64_to_i64};
-use words::fabs::{fabs, fabsf};
+use words::fabs::fabs;
 
 // From this size on all digits stand before the point, and every number is whole: 2^52 has 53 binary digits, and in f32 2^23 has 24.
 const WHOLE_FROM: f64 = 4503599627370496.0;
@@ -47,7 +47,7 @@ pub fn floor(x: f64) -> f64
 pub fn floorf(x: f32) -> f32
     ensures { result ≡ floor_s binary32 x }
 {
-    let size = fabsf(x);
+    let size = fabs(x);
     if size < 1.0 {
         // Size below one.
         if x < 0.0 {

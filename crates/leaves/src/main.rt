@@ -6,12 +6,12 @@
 //  3 whole's number   7 sign            12 whole's fraction, 1 or 0
 //  4 narrow           8 size_word
 // 16 to 20 horner at a, over no coefficient, the first, the first two and all of erf's PP, and over erf's SA
-// 33 fabsf           36 sign_f32        39 logf
-// 34 floorf          37 size_bits       40 scalbnf(a, b), b an i32
+// 33 fabs           36 sign        39 logf
+// 34 floorf          37 size_word       40 scalbnf(a, b), b an i32
 // 35 wholef's number 38 expf            45 wholef's fraction, 1 or 0
 // 41 erff            43 lgammaf_r: its sign above its value
 // 42 erfcf           44 tgammaf
-// 48 to 51 hornerf at a, over no coefficient, the first, the first two and all of erff's PP
+// 48 to 51 horner at a, over no coefficient, the first, the first two and all of erff's PP
 // 64 scalbn(a, b), b an i32
 // 65 exp
 // 66 log            68 k_sin(a, 0, 0)
@@ -41,7 +41,7 @@ use lgammaf::lgammaf_r;
 use logarithm::log;
 use logarithm::single::logf;
 use narrow::narrow;
-use poly::{horner, hornerf};
+use poly::horner;
 use pow::pow;
 use scalbn::scalbn;
 use scalbn::single::scalbnf;
@@ -54,10 +54,10 @@ use trig::single::{k_cosf, k_sinf};
 use trig::{k_cos, k_sin};
 use whole::{whole, wholef};
 use words::bits::{
-    bits_of, bits_of_f32, get_high_word, get_low_word, of_bits, of_bits_f32, sign, sign_f32,
-    size_bits, size_word, with_set_high_word, with_set_low_word,
+    bits_of, get_high_word, get_low_word, of_bits, sign, size_word, with_set_high_word,
+    with_set_low_word,
 };
-use words::fabs::{fabs, fabsf};
+use words::fabs::fabs;
 
 const UNKNOWN: u64 = 0xffff_ffff_ffff_ffff;
 
@@ -122,7 +122,7 @@ fn number_leaf(leaf: u64, x: f64) -> u64 {
         1 => bits_of(fabs(x)),
         2 => bits_of(floor(x)),
         3 => pattern(whole(x).number),
-        4 => bits_of_f32(narrow(x)) as u64,
+        4 => bits_of(narrow(x)) as u64,
         _ => UNKNOWN,
     }
 }
@@ -159,20 +159,20 @@ fn horner_leaf(leaf: u64, x: f64) -> u64 {
 
 fn number_leaf_f32(leaf: u64, x: f32) -> u64 {
     match leaf {
-        33 => bits_of_f32(fabsf(x)) as u64,
-        34 => bits_of_f32(floorf(x)) as u64,
+        33 => bits_of(fabs(x)) as u64,
+        34 => bits_of(floorf(x)) as u64,
         35 => pattern(wholef(x).number),
-        36 => sign_f32(x) as u64,
-        37 => size_bits(x) as u64,
+        36 => sign(x) as u64,
+        37 => size_word(x) as u64,
         _ => UNKNOWN,
     }
 }
 
 fn power_leaf_f32(leaf: u64, x: f32, n: i32) -> u64 {
     match leaf {
-        38 => bits_of_f32(expf(x)) as u64,
-        39 => bits_of_f32(logf(x)) as u64,
-        40 => bits_of_f32(scalbnf(x, n)) as u64,
+        38 => bits_of(expf(x)) as u64,
+        39 => bits_of(logf(x)) as u64,
+        40 => bits_of(scalbnf(x, n)) as u64,
         _ => UNKNOWN,
     }
 }
@@ -180,15 +180,15 @@ fn power_leaf_f32(leaf: u64, x: f32, n: i32) -> u64 {
 // Its sign's 32 bits above the value's.
 fn sign_and_value(x: f32) -> u64 {
     let t = lgammaf_r(x);
-    low_half(pattern(t.sign)) as u64 * 0x1_0000_0000 + bits_of_f32(t.value) as u64
+    low_half(pattern(t.sign)) as u64 * 0x1_0000_0000 + bits_of(t.value) as u64
 }
 
 fn function_leaf_f32(leaf: u64, x: f32) -> u64 {
     match leaf {
-        41 => bits_of_f32(erff(x)) as u64,
-        42 => bits_of_f32(erfcf(x)) as u64,
+        41 => bits_of(erff(x)) as u64,
+        42 => bits_of(erfcf(x)) as u64,
         43 => sign_and_value(x),
-        44 => bits_of_f32(tgammaf(x)) as u64,
+        44 => bits_of(tgammaf(x)) as u64,
         _ => UNKNOWN,
     }
 }
@@ -202,10 +202,10 @@ fn fraction_leaf_f32(leaf: u64, x: f32) -> u64 {
 
 fn horner_leaf_f32(leaf: u64, x: f32) -> u64 {
     match leaf {
-        48 => bits_of_f32(hornerf(&NONE_F32, x)) as u64,
-        49 => bits_of_f32(hornerf(&PP_ONE_F32, x)) as u64,
-        50 => bits_of_f32(hornerf(&PP_TWO_F32, x)) as u64,
-        51 => bits_of_f32(hornerf(&PP_F32, x)) as u64,
+        48 => bits_of(horner(&NONE_F32, x)) as u64,
+        49 => bits_of(horner(&PP_ONE_F32, x)) as u64,
+        50 => bits_of(horner(&PP_TWO_F32, x)) as u64,
+        51 => bits_of(horner(&PP_F32, x)) as u64,
         _ => UNKNOWN,
     }
 }
@@ -226,8 +226,8 @@ fn function_leaf(leaf: u64, x: f64, y: f64) -> u64 {
         69 => bits_of(k_cos(x, y)),
         70 => bits_of(sqrt(x)),
         71 => bits_of(pow(x, y)),
-        72 => bits_of_f32(k_sinf(x)) as u64,
-        73 => bits_of_f32(k_cosf(x)) as u64,
+        72 => bits_of(k_sinf(x)) as u64,
+        73 => bits_of(k_cosf(x)) as u64,
         _ => UNKNOWN,
     }
 }
@@ -297,7 +297,7 @@ fn answer(leaf: u64, a: u64, b: u64) -> u64 {
         return horner_leaf(leaf, of_bits(a));
     }
     if leaf < 64 {
-        return answer_f32(leaf, of_bits_f32(low_half(a)), of_pattern(low_half(b)));
+        return answer_f32(leaf, of_bits(low_half(a)), of_pattern(low_half(b)));
     }
     if leaf < 66 {
         return power_leaf(leaf, of_bits(a), of_pattern(low_half(b)));

@@ -9,7 +9,7 @@ ghost use Rattle.lgammaf.specs.Lgammaf.{lgamma32};
 ghost use Rattle.lgammaf.specs.Segment.{segment_of};
 
 use logarithm::single::logf;
-use poly::hornerf;
+use poly::horner;
 
 // The last pattern of this part.
 const UP_TO_0_9: u32 = 0x3f666666;
@@ -125,8 +125,8 @@ fn zero(y: f32) -> f32
     ensures { result ≡ zero_s lgamma32 y }
 {
     let z = y * y;
-    let p1 = hornerf(&A_EVEN, z);
-    let p2 = z * hornerf(&A_ODD, z);
+    let p1 = horner(&A_EVEN, z);
+    let p2 = z * horner(&A_ODD, z);
     let p = y * p1 + p2;
     p - 0.5 * y
 }
@@ -136,9 +136,9 @@ fn one(y: f32) -> f32
 {
     let z = y * y;
     let w = z * y;
-    let p1 = hornerf(&T_0, w); /* parallel comp */
-    let p2 = hornerf(&T_1, w);
-    let p3 = hornerf(&T_2, w);
+    let p1 = horner(&T_0, w); /* parallel comp */
+    let p2 = horner(&T_1, w);
+    let p3 = horner(&T_2, w);
     let p = z * p1 - (TT - w * (p2 + y * p3));
     TF + p
 }
@@ -146,8 +146,8 @@ fn one(y: f32) -> f32
 fn two(y: f32) -> f32
     ensures { result ≡ two_s lgamma32 y }
 {
-    let p1 = y * hornerf(&U, y);
-    let p2 = hornerf(&V, y);
+    let p1 = y * horner(&U, y);
+    let p2 = horner(&V, y);
     MINUS_HALF * y + p1 / p2
 }
 

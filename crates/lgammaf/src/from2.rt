@@ -6,7 +6,7 @@ ghost use Rattle.lgamma.specs.Plan.{product_s, below8_s, stirling_s};
 ghost use Rattle.lgammaf.specs.Lgammaf.{lgamma32};
 
 use logarithm::single::logf;
-use poly::hornerf;
+use poly::horner;
 use whole::wholef;
 
 // S0 to S6
@@ -68,8 +68,8 @@ pub(crate) fn below8(x: f32) -> f32
 {
     let i = wholef(x).number;
     let y = x - std::num::nearest_i32_to_f32(i);
-    let p = y * hornerf(&S, y);
-    let q = hornerf(&R, y);
+    let p = y * horner(&S, y);
+    let q = horner(&R, y);
     let r = 0.5 * y + p / q;
     if i >= 3 {
         /* lgamma(1+s) = log(s) + lgamma(s) */
@@ -84,6 +84,6 @@ pub(crate) fn stirling(x: f32) -> f32
     let t = logf(x);
     let z = 1.0 / x;
     let y = z * z;
-    let w = W0 + z * hornerf(&W, y);
+    let w = W0 + z * horner(&W, y);
     (x - 0.5) * (t - 1.0) + w
 }

@@ -13,7 +13,7 @@ use crate::below2::below2;
 use crate::from2::{below8, stirling};
 use logarithm::single::logf;
 use sinpi::single::sinpif;
-use words::bits::{sign_f32, size_bits};
+use words::bits::{sign, size_word};
 
 const PI: f32 = 3.1415927410e+00; /* 0x40490fdb */
 
@@ -77,8 +77,8 @@ pub fn lgammaf_r(x: f32) -> LgammafR
     if x != x {
         return answer(x, 1);
     }
-    let sign = sign_f32(x);
-    let ix = size_bits(x);
+    let sign = sign(x);
+    let ix = size_word(x);
     if ix >= 0x7f800000 {
         return answer(x * x, 1);
     }

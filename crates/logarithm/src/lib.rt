@@ -5,6 +5,7 @@
 // Regions: +-0 gives -inf, below 0 NaN; a subnormal number is scaled up by 2^54; infinity and NaN stay; 1 gives +0. In f32: module `single`.
 #![tactic(auto)]
 
+pub mod real;
 pub mod single;
 
 ghost use Rattle.std.specs.Prelude.{◌^◌, ◌<◌, ◌≡◌, pos, nat_abs, ◌+ℤ◌, ◌-ℤ◌};

@@ -5,8 +5,8 @@ ghost use Rattle.logarithm.specs.Plan.{near_s, reduced_s};
 ghost use Rattle.logarithm.specs.Logf.{log32, logf_s};
 
 use crate::exponent;
-use poly::hornerf;
-use words::bits::{bits_of_f32, of_bits_f32};
+use poly::horner;
+use words::bits::{bits_of, of_bits};
 
 const MINUS_ONE: f32 = -1.0;
 
@@ -36,8 +36,8 @@ fn near(x: f32, k: i32) -> f32
     let z = s * s;
     let w = z * z;
     // in this order the compiler does both at once, as a vector
-    let t2 = z * hornerf(&LG_ODD, w);
-    let t1 = w * hornerf(&LG_EVEN, w);
+    let t2 = z * horner(&LG_ODD, w);
+    let t1 = w * horner(&LG_EVEN, w);
     let r = t2 + t1;
     let hfsq = 0.5 * f * f;
     let dk = k as f32;
@@ -52,7 +52,7 @@ fn reduced(ix: u32, k: i32) -> f32
     let ix = ix as u64 + (0x3f80_0000 - 0x3f35_04f3);
     let k = exponent(k, ix / 0x80_0000, 0x7f);
     let ix = ix % 0x80_0000 + 0x3f35_04f3;
-    near(of_bits_f32(ix as u32), k)
+    near(of_bits(ix as u32), k)
 }
 
 pub fn logf(x: f32) -> f32
@@ -62,7 +62,7 @@ pub fn logf(x: f32) -> f32
     if x != x {
         return x;
     }
-    let ix = bits_of_f32(x);
+    let ix = bits_of(x);
     if ix < 0x0080_0000 || ix >= 0x8000_0000 {
         if ix % 0x8000_0000 == 0 {
             return MINUS_ONE / (x * x);
@@ -70,7 +70,7 @@ pub fn logf(x: f32) -> f32
         if ix >= 0x8000_0000 {
             return (x - x) / 0.0;
         }
-        return reduced(bits_of_f32(x * X1P25), -25);
+        return reduced(bits_of(x * X1P25), -25);
     }
     if ix >= 0x7f80_0000 {
         return x;

@@ -4,7 +4,7 @@ ghost use Rattle.std.specs.Int.Signed.{lt_z};
 ghost use Rattle.std.specs.Float.{binary32};
 ghost use Rattle.scalbn.specs.Scalbn.{power2, up_s, down_s, scalbn_s};
 
-use words::bits::of_bits_f32;
+use words::bits::of_bits;
 
 const EXP_MAX: i32 = 127;
 
@@ -20,7 +20,7 @@ fn power(n: i32) -> f32
     requires { (lt_z n (negsuc 125) ≡ false) × (lt_z (pos 127) n ≡ false) }
     ensures { result ≡ power2 binary32 n }
 {
-    of_bits_f32((EXP_MAX + n) as u32 * 0x80_0000)
+    of_bits((EXP_MAX + n) as u32 * 0x80_0000)
 }
 
 fn up(x: f32, n: i32) -> f32

@@ -3,6 +3,7 @@
 // the sign that n asks for: 0 sin, 1 cos, 2 -sin (as sin of the negative), 3 -cos, 4 sin. In f32: module `single`.
 #![tactic(auto)]
 
+pub mod real;
 pub mod single;
 
 ghost use Rattle.std.specs.Prelude.{◌≡◌};

@@ -5,7 +5,8 @@
 ghost use Rattle.std.specs.Prelude.{◌≡◌, not, ◌/◌, ◌%◌, ◌^◌, ◌<◌, eqb};
 ghost use Rattle.whole.specs.Whole.{small, whole_s, has_fraction_s};
 
-use words::bits::{bits_of, bits_of_f32};
+use words::bits::bits_of;
+use words::real::Real;
 
 // What there is for a size from 2^31 on, and for a NaN.
 const OUTSIDE: i32 = 0;
@@ -68,7 +69,7 @@ pub fn whole(x: f64) -> WholePart
 pub fn wholef(x: f32) -> WholePart
     ensures { (result.number ≡ whole_s x) × (result.fraction ≡ has_fraction_s x) }
 {
-    let b = bits_of_f32(x);
+    let b = bits_of(x);
     let e = b / 0x80_0000 % 256;
     if e < 127 {
         // |x| < 1.0
@@ -86,4 +87,22 @@ pub fn wholef(x: f32) -> WholePart
     }
     let m = (b % 0x80_0000 + 0x80_0000) * 128;
     divided(m as u64, (157 - e) as u64, b >= 0x8000_0000)
+}
+
+// The whole part of either width.
+pub trait Whole: Real {
+    fn whole(self) -> WholePart
+        ensures { (result.number ≡ whole_s (Self.float self)) × (result.fraction ≡ has_fraction_s (Self.float self)) };
+}
+
+impl Whole for f64 {
+    fn whole(self) -> WholePart {
+        whole(self)
+    }
+}
+
+impl Whole for f32 {
+    fn whole(self) -> WholePart {
+        wholef(self)
+    }
 }
