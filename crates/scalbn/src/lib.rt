@@ -1,76 +1,72 @@
 // scalbn: x times 2^n, for every n. Where 2^n is no normal number n is taken in steps: above, x is first multiplied by 2^1023, once or twice;
 // below, by 2^(-1022 + 53), once or twice. Then n is still below -53, so that a product which was rounded there vanishes in the last one, and
-// nothing is rounded twice. What is left of n is cut to the exponents of the normal numbers. In f32: module `single`.
+// nothing is rounded twice. What is left of n is cut to the exponents of the normal numbers. In f32 it is 2^127 and 2^(-126 + 24).
 #![tactic(auto)]
 
-pub mod single;
+pub mod real;
 
-ghost use Rattle.std.specs.Prelude.{◌≡◌, true, false, ℤ, pos, negsuc};
+ghost use Rattle.std.specs.Prelude.{◌≡◌, true, false, ℤ};
 ghost use Rattle.std.specs.Int.Signed.{lt_z};
-ghost use Rattle.std.specs.Float.{binary64};
-ghost use Rattle.scalbn.specs.Scalbn.{power2, up_s, down_s, scalbn_s};
+ghost use Rattle.scalbn.specs.Scalbn.{exp_max, exp_min, power2, up_s, down_s, scalbn_s};
 
-use words::bits::of_bits;
-
-const EXP_MAX: i32 = 1023;
-
-const EXP_MIN: i32 = -1022;
-
-const SIG_TOTAL_BITS: i32 = 53;
-
-// -exp_min - sig_total_bits
-const ADD: i32 = 1022 - 53;
+use real::Scale;
 
 // 2^n.
-fn power(n: i32) -> f64
-    requires { (lt_z n (negsuc 1021) ≡ false) × (lt_z (pos 1023) n ≡ false) }
-    ensures { result ≡ power2 binary64 n }
+fn power<R: Scale>(n: i32) -> R
+    requires { (lt_z n (exp_min R.format) ≡ false) × (lt_z (exp_max R.format) n ≡ false) }
+    ensures { R.float result ≡ power2 R.format n }
 {
-    of_bits((EXP_MAX + n) as u64 * 0x10_0000_0000_0000)
+    R::from_field((R::EXP_MAX + n) as u32)
 }
 
-fn up(x: f64, n: i32) -> f64
-    requires { lt_z (pos 1023) n ≡ true }
-    ensures { result ≡ up_s binary64 x n }
+fn up<R: Scale>(x: R, n: i32) -> R
+    requires { lt_z (exp_max R.format) n ≡ true }
+    ensures { R.float result ≡ up_s R.format (R.float x) n }
 {
-    let x1 = x * power(EXP_MAX);
-    let n1 = n - EXP_MAX;
-    if n1 > EXP_MAX {
-        let x2 = x1 * power(EXP_MAX);
-        let n2 = n1 - EXP_MAX;
-        if n2 > EXP_MAX {
-            return x2 * power(EXP_MAX);
+    let max = R::EXP_MAX;
+    let greatest = power(max);
+    let x1 = x * greatest;
+    let n1 = n - max;
+    if n1 > max {
+        let x2 = x1 * greatest;
+        let n2 = n1 - max;
+        if n2 > max {
+            return x2 * greatest;
         }
         return x2 * power(n2);
     }
     x1 * power(n1)
 }
 
-fn down(x: f64, n: i32) -> f64
-    requires { lt_z n (negsuc 1021) ≡ true }
-    ensures { result ≡ down_s binary64 x n }
+fn down<R: Scale>(x: R, n: i32) -> R
+    requires { lt_z n (exp_min R.format) ≡ true }
+    ensures { R.float result ≡ down_s R.format (R.float x) n }
 {
-    let mul = power(EXP_MIN) * power(SIG_TOTAL_BITS);
+    let min = R::EXP_MIN;
+    let bits = R::SIG_TOTAL_BITS;
+    let least: R = power(min);
+    let mul = least * power(bits);
+    let add = -min - bits;
     let x1 = x * mul;
-    let n1 = n + ADD;
-    if n1 < EXP_MIN {
+    let n1 = n + add;
+    if n1 < min {
         let x2 = x1 * mul;
-        let n2 = n1 + ADD;
-        if n2 < EXP_MIN {
-            return x2 * power(EXP_MIN);
+        let n2 = n1 + add;
+        if n2 < min {
+            return x2 * least;
         }
         return x2 * power(n2);
     }
     x1 * power(n1)
 }
 
-pub fn scalbn(x: f64, n: i32) -> f64
-    ensures { result ≡ scalbn_s binary64 x n }
+pub fn scalbn<R: Scale>(x: R, n: i32) -> R
+    ensures { R.float result ≡ scalbn_s R.format (R.float x) n }
 {
-    if n > EXP_MAX {
+    if n > R::EXP_MAX {
         return up(x, n);
     }
-    if n < EXP_MIN {
+    if n < R::EXP_MIN {
         return down(x, n);
     }
     x * power(n)

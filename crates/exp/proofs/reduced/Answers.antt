@@ -1,8 +1,11 @@
 -- `exp::reduced` meets its contract. Assumes nothing.
-use Rattle.exp.specs.Exp.{exp64}
+use Rattle.std.proofs.Common.{◌∙◌}
 use Rattle.exp.proofs.ExpCode as code
 use Rattle.exp.proofs.reduced.Goals as goal
 
 pub returns : goal.returns
-returns c =
-    cc (code.reduced_by exp64 c.args.x c.args.k c.ranges.k)
+returns g c =
+    let l = g.met.R.Real in
+    c.primary.ensures
+    ∙ code.reduced_by _ _ _ c.ranges.k _ c.of_int-kf.ensures _ (l.mul_law _ _ _ c.mul.ensures) _ (l.sub_law _ _ _ c.sub-hi.ensures)
+    _ (l.mul_law _ _ _ c.mul-lo.ensures) _ (l.sub_law _ _ _ c.sub.ensures)

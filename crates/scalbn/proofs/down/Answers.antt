@@ -1,39 +1,44 @@
 -- `scalbn::down` meets its contract. Assumes nothing.
-use lib.Ieee.{binary64}
+use mathlib.Core.Path.{◌∙◌}
 use Rattle.scalbn.proofs.ScalbnCode as code
 use Rattle.scalbn.proofs.down.Goals as goal
 
 pub overflow_add-n1 : goal.overflow_add-n1
-overflow_add-n1 c =
-    let s = c in
-    code.down1_fits binary64 s.args.n s.ranges.n s.requires
+overflow_add-n1 g c =
+    code.under1_fits _ _ _ _ c.ranges.n c.requires (c.EXP_MIN-min.ensures ∙ g.met.R.Scale.min_law) (c.SIG_TOTAL_BITS-bits.ensures ∙ g.met.R.Scale.bits_law)
 
 pub overflow_add-n2 : goal.overflow_add-n2
-overflow_add-n2 c =
-    let s = c in
-    code.down2_fits binary64 s.args.n s.ranges.n s.requires c.if-n1-lt-EXP_MIN.true
+overflow_add-n2 g c =
+    code.under2_fits _ _ _ _ c.ranges.n c.requires (c.EXP_MIN-min.ensures ∙ g.met.R.Scale.min_law) (c.SIG_TOTAL_BITS-bits.ensures ∙ g.met.R.Scale.bits_law) c.if-n1-min.true
 
-pub returns-then-n2-lt-EXP_MIN : goal.returns-then-n2-lt-EXP_MIN
-returns-then-n2-lt-EXP_MIN c =
-    let s = c in
-    cc (code.down_thrice binary64 s.args.n s.ranges.n s.requires c.if-n1-lt-EXP_MIN.true s.args.x c.if-n2-lt-EXP_MIN.true)
+pub mul-requires : goal.mul-requires
+mul-requires g c =
+    g.met.R.Real.can_mul_law _ _
 
-pub power-requires-then-n1-lt-EXP_MIN : goal.power-requires-then-n1-lt-EXP_MIN
-power-requires-then-n1-lt-EXP_MIN c =
-    let s = c in
-    code.down2_normal binary64 s.args.n s.ranges.n s.requires c.if-n1-lt-EXP_MIN.true c.if-n2-lt-EXP_MIN.false
+pub returns-then-n2-min : goal.returns-then-n2-min
+returns-then-n2-min g c =
+    code.down_by_three _ _ _ _ c.ranges.n c.requires (c.EXP_MIN-min.ensures ∙ g.met.R.Scale.min_law) (c.SIG_TOTAL_BITS-bits.ensures ∙ g.met.R.Scale.bits_law) _ _ _ _ _ c.power-least.ensures c.power.ensures (g.met.R.Real.mul_law _ _ _ c.mul-mul.ensures) (g.met.R.Real.mul_law _ _ _ c.mul-x1.ensures) _ (g.met.R.Real.mul_law _ _ _ c.mul-x2.ensures) c.if-n1-min.true _ (g.met.R.Real.mul_law _ _ _ c.mul.ensures) c.if-n2-min.true
 
-pub returns-then-n1-lt-EXP_MIN : goal.returns-then-n1-lt-EXP_MIN
-returns-then-n1-lt-EXP_MIN c =
-    let s = c in
-    cc (code.down_twice binary64 s.args.n s.ranges.n s.requires c.if-n1-lt-EXP_MIN.true s.args.x c.if-n2-lt-EXP_MIN.false)
+pub power-requires-then-n1-min : goal.power-requires-then-n1-min
+power-requires-then-n1-min g c =
+    code.under2_normal _ _ _ _ c.ranges.n c.requires (c.EXP_MIN-min.ensures ∙ g.met.R.Scale.min_law) (c.SIG_TOTAL_BITS-bits.ensures ∙ g.met.R.Scale.bits_law) c.if-n1-min.true c.if-n2-min.false
 
-pub power-requires-3 : goal.power-requires-3
-power-requires-3 c =
-    let s = c in
-    code.down1_normal binary64 s.args.n s.ranges.n s.requires c.if-n1-lt-EXP_MIN.false
+pub mul-requires-then-n1-min : goal.mul-requires-then-n1-min
+mul-requires-then-n1-min g c =
+    g.met.R.Real.can_mul_law _ _
+
+pub returns-then-n1-min : goal.returns-then-n1-min
+returns-then-n1-min g c =
+    code.down_by_two _ _ _ _ c.ranges.n c.requires (c.EXP_MIN-min.ensures ∙ g.met.R.Scale.min_law) (c.SIG_TOTAL_BITS-bits.ensures ∙ g.met.R.Scale.bits_law) _ _ _ _ _ c.power-least.ensures c.power.ensures (g.met.R.Real.mul_law _ _ _ c.mul-mul.ensures) (g.met.R.Real.mul_law _ _ _ c.mul-x1.ensures) _ (g.met.R.Real.mul_law _ _ _ c.mul-x2.ensures) c.if-n1-min.true _ _ c.power-then-n1-min.ensures (g.met.R.Real.mul_law _ _ _ c.mul-then-n1-min.ensures) c.if-n2-min.false
+
+pub power-requires-2 : goal.power-requires-2
+power-requires-2 g c =
+    code.under1_normal _ _ _ _ c.ranges.n c.requires (c.EXP_MIN-min.ensures ∙ g.met.R.Scale.min_law) (c.SIG_TOTAL_BITS-bits.ensures ∙ g.met.R.Scale.bits_law) c.if-n1-min.false
+
+pub mul-requires-2 : goal.mul-requires-2
+mul-requires-2 g c =
+    g.met.R.Real.can_mul_law _ _
 
 pub returns : goal.returns
-returns c =
-    let s = c in
-    cc (code.down_once binary64 s.args.n s.ranges.n s.requires s.args.x c.if-n1-lt-EXP_MIN.false)
+returns g c =
+    code.down_by_one _ _ _ _ c.ranges.n c.requires (c.EXP_MIN-min.ensures ∙ g.met.R.Scale.min_law) (c.SIG_TOTAL_BITS-bits.ensures ∙ g.met.R.Scale.bits_law) _ _ _ _ _ c.power-least.ensures c.power.ensures (g.met.R.Real.mul_law _ _ _ c.mul-mul.ensures) (g.met.R.Real.mul_law _ _ _ c.mul-x1.ensures) _ _ c.power-2.ensures (g.met.R.Real.mul_law _ _ _ c.mul-2.ensures) c.if-n1-min.false
