@@ -13,6 +13,8 @@ use Rattle.words.specs.Fabs.{fabs_s}
 use Rattle.sqrt.specs.Sqrt.{sqrt_s}
 use Rattle.pow_log.specs.Log2.{near_one_s, log2_s}
 use Rattle.pow_exp.specs.Exp2.{HUGE, TINY, product_s}
+use Rattle.pow.specs.declared.Whole.{Whole}
+use Rattle.pow.specs.declared.Whole.TheVariants.{No, Odd, Even}
 
 -- h < 0, h >= 0 and h > 0
 abbrev pub negative : ℕ → Bool
@@ -67,6 +69,12 @@ special_x_s x hx hy yisint =
     let z = fabs_s x in
     let z = if negative hy then 1·0 ⊘ z else z in
     turned_s z hx yisint
+
+-- the numbers that yisint has
+abbrev pub number_of : Whole → ℕ
+number_of No = 0
+number_of Odd = 1
+number_of Even = 2
 
 -- w / 2 ^ d is no whole number: 0; an odd one: 1; an even one: 2
 unfoldable pub parity_s : ℕ → ℕ → ℕ

@@ -54,8 +54,10 @@ pub infinity_stays : (x : Float) → fits binary64 x ≡ true → to_bits binary
 unfolding sqrt_s of_bits
 infinity_stays x f h = subst (λ (z : Float). z ≡ sqrt_s z) (sym (ap (of_bits binary64) h) ∙ of_bits-to_bits binary64 x (subst T (sym f) tt)) refl
 
-pub no_root : (x : Float) → fits binary64 x ≡ true → (to_bits binary64 x % 2 ^ 63 ≡ 0 → ⊥) → endless < to_bits binary64 x → nan ≡ sqrt_s x
-unfolding sqrt_s to_bits
+-- the answer as the pattern of f64::NAN
+pub no_root : (x : Float) → fits binary64 x ≡ true → (to_bits binary64 x % 2 ^ 63 ≡ 0 → ⊥) → endless < to_bits binary64 x
+    → of_bits binary64 0x7FF8000000000000 ≡ sqrt_s x
+unfolding sqrt_s to_bits of_bits
 no_root nan f n h = refl
 no_root (inf true) f n h = refl
 no_root (inf false) f n h = absurd (lt_irrefl endless h)

@@ -17,6 +17,9 @@ const INFINITY: u64 = 0x7ff0_0000_0000_0000;
 // The weight of the exponent's field.
 const FIELD: u64 = 0x10_0000_0000_0000;
 
+// The binary digits of a number.
+const DIGITS: u32 = 53;
+
 // A positive number m * 2^(b - 2098), where m has 53 binary digits.
 #[derive(Drop)]
 struct Normal {
@@ -54,16 +57,14 @@ fn nearest_root(a: u64) -> u64
     let mut left = a * 0x400;
     let mut root: u64 = 0;
     let mut rest: u64 = 0;
-    let mut i: u64 = 0;
-    while i < 53 {
+    for _ in 0..DIGITS {
         rest = rest * 4 + left / 0x4000_0000_0000_0000;
         left = left % 0x4000_0000_0000_0000 * 4;
-        root = root * 2;
+        root *= 2;
         if rest > root * 2 {
-            rest = rest - (root * 2 + 1);
-            root = root + 1;
+            rest -= root * 2 + 1;
+            root += 1;
         }
-        i = i + 1;
     }
     if rest > root { root + 1 } else { root }
 }
@@ -73,27 +74,21 @@ fn root_bits(ix: u64) -> u64
     requires { (0 < ix) × (ix < 0x7ff0_0000_0000_0000) }
     ensures { of_bits binary64 result ≡ sqrt_s (of_bits binary64 ix) }
 {
-    let x = normalise(ix);
-    let m = x.m;
-    let b = x.b;
-    if b % 2 == 0 {
-        return (b / 2 - 1) * FIELD + nearest_root(m);
-    }
-    (b / 2 - 1) * FIELD + nearest_root(m * 2)
+    let Normal { m, b } = normalise(ix);
+    let a = if b % 2 == 0 { m } else { m * 2 };
+    (b / 2 - 1) * FIELD + nearest_root(a)
 }
 
+#[tactic(auto, using(crate::proofs::Special::zero_stays, crate::proofs::Special::infinity_stays, crate::proofs::Special::no_root, crate::proofs::Special::of_own_bits))]
 pub fn sqrt(x: f64) -> f64
     ensures { result ≡ sqrt_s x }
 {
     let ix = bits_of(x);
-    if ix % 0x8000_0000_0000_0000 == 0 {
-        return x;
-    }
-    if ix == INFINITY {
+    if ix % 0x8000_0000_0000_0000 == 0 || ix == INFINITY {
         return x;
     }
     if ix > INFINITY {
-        return 0.0 / 0.0;
+        return f64::NAN;
     }
     of_bits(root_bits(ix))
 }

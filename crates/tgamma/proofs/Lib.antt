@@ -1,5 +1,7 @@
--- Turns: one turn of each loop over the coefficients of S(x)
+-- Turns: the sums of S(x) as folds over the coefficients
 pub mod Turns
+-- WholeTest: x = floor(x) where x has no fraction
+pub mod WholeTest
 -- FactIndex: a whole number up to 23 has its place in FACT
 pub mod FactIndex
 -- SpecialValues: what Annex F names

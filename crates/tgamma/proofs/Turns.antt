@@ -1,30 +1,34 @@
--- One turn of each loop over the coefficients of S(x). Assumes nothing.
-use Prim.Native.Nat.{ℕ, suc, ◌+◌, ◌<◌, ◌≤◌}
-use native.Mathlib.Numerals.{add-one}
-use mathlib.Core.Path.{◌≡◌, sym, ap}
-use mathlib.Core.List.{List}
-use lib.ListN.{length, get_or, drop, drop_of_length-le}
-use lib.Seq.{drop-cons, drop-length}
-use lib.Ieee.{Float, nan}
+-- The sums of S(x) as folds over the coefficients: `down_is`, from the last on, and `up_is`, from the first on. Assumes nothing.
+use mathlib.Core.Path.{◌≡◌, refl, ap, ◌∙◌}
+use mathlib.Core.List.{List, [], ◌∷◌}
+use lib.Ieee.{Float}
+use Rattle.std.specs.Prelude.{reverse}
+use Rattle.std.specs.List.{fold}
+use Rattle.std.proofs.lemmas.Grind.{reverse_onto}
+use Rattle.std.proofs.lemmas.List.Sums.{fold_push}
 use Rattle.words.specs.F64.{◌⊕◌, ◌⊗◌, ◌⊘◌, bits}
 use Rattle.tgamma.specs.Lanczos.{down_s, up_s}
 
--- ---- down: a stands for the coefficients from i on
-pub down_none : (cs : List Float) (x : Float) → bits 0 ≡ down_s (drop (length cs) cs) x
+-- ---- down
+abbrev down_turn : Float → Float → Float → Float
+down_turn x a c = a ⊗ x ⊕ c
+
+down_fold : (cs : List Float) (x : Float) → fold (λ (a c : Float). a ⊗ x ⊕ c) (bits 0) (reverse cs) ≡ down_s cs x
 unfolding down_s
-down_none cs x = ap (λ (l : List Float). down_s l x) (sym (drop-length cs))
+down_fold [] x = refl
+down_fold (c ∷ cs) x =
+    ap (λ (l : List Float). fold (down_turn x) (bits 0) l) (reverse_onto cs c [])
+    ∙ fold_push (down_turn x) (bits 0) (reverse cs) c
+    ∙ ap (λ (a : Float). a ⊗ x ⊕ c) (down_fold cs x)
 
-pub down_more : (cs : List Float) (x a : Float) (i k : ℕ) → i ≡ suc k → k < length cs → a ≡ down_s (drop i cs) x
-    → a ⊗ x ⊕ get_or cs k nan ≡ down_s (drop k cs) x
-unfolding down_s
-down_more cs x a i k e h q = rw (drop-cons cs k nan h, q, e)
+pub down_is : (cs : List Float) (x r : Float) → r ≡ fold (λ (a c : Float). a ⊗ x ⊕ c) (bits 0) (reverse cs) → r ≡ down_s cs x
+down_is cs x r h = h ∙ down_fold cs x
 
--- ---- up: the coefficients from i on are to come, onto a
-pub up_none : (cs : List Float) (x a : Float) (i : ℕ) → length cs ≤ i → a ≡ up_s a (drop i cs) x
+-- ---- up
+up_fold : (cs : List Float) (x a : Float) → fold (λ (a c : Float). a ⊘ x ⊕ c) a cs ≡ up_s a cs x
 unfolding up_s
-up_none cs x a i h = rw (drop_of_length-le cs h)
+up_fold [] x a = refl
+up_fold (c ∷ cs) x a = up_fold cs x (a ⊘ x ⊕ c)
 
-pub up_more : (cs : List Float) (x a : Float) (i : ℕ) → i < length cs
-    → up_s (a ⊘ x ⊕ get_or cs i nan) (drop (i + 1) cs) x ≡ up_s a (drop i cs) x
-unfolding up_s
-up_more cs x a i h = rw (add-one, drop-cons cs i nan h)
+pub up_is : (cs : List Float) (x r : Float) → r ≡ fold (λ (a c : Float). a ⊘ x ⊕ c) (bits 0) cs → r ≡ up_s (bits 0) cs x
+up_is cs x r h = h ∙ up_fold cs x (bits 0)

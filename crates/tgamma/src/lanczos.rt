@@ -36,32 +36,23 @@ const SDEN: [f64; 13] = [
 ];
 
 // a * x + c, with the last coefficient first.
+#[tactic(auto, using(crate::proofs::Turns::down_is))]
 fn down(cs: &[f64], x: f64) -> f64
     ensures { result ≡ down_s cs.now x }
 {
-    let mut a = 0.0;
-    let mut i = cs.len();
-    while i > 0 {
-        i -= 1;
-        a = a * x + cs[i];
-    }
-    a
+    cs.iter().rev().copied().fold(0.0, |a, c| a * x + c)
 }
 
 // a / x + c, with the first coefficient first.
+#[tactic(auto, using(crate::proofs::Turns::up_is))]
 fn up(cs: &[f64], x: f64) -> f64
     ensures { result ≡ up_s (bits 0) cs.now x }
 {
-    let mut a = 0.0;
-    let mut i = 0;
-    while i < cs.len() {
-        a = a / x + cs[i];
-        i += 1;
-    }
-    a
+    cs.iter().copied().fold(0.0, |a, c| a / x + c)
 }
 
 /* S(x) rational function for positive x */
+#[tactic(auto, unfolding(crate::specs::Lanczos::s_s))]
 pub(crate) fn s(x: f64) -> f64
     ensures { result ≡ s_s x }
 {

@@ -8,9 +8,9 @@
 
 pub mod lanczos;
 
-ghost use Rattle.std.specs.Prelude.{◌≡◌, true, ◌≤◌, get_or, if◌then◌else◌};
+ghost use Rattle.std.specs.Prelude.{◌≡◌, true, ◌≤◌, if◌then◌else◌};
 ghost use Rattle.std.specs.Float.Ieee as Ieee;
-ghost use Rattle.std.specs.Float.{nan, binary64};
+ghost use Rattle.std.specs.Float.{binary64};
 ghost use Rattle.std.specs.Float.Ieee.{neg};
 ghost use Rattle.words.specs.Tests.{◌=?◌, ◌<·◌};
 ghost use Rattle.words.specs.Bits.{size_word_s, sign_s};
@@ -18,7 +18,7 @@ ghost use Rattle.words.specs.F64.{◌⊗◌, ◌⊘◌, 0·0};
 ghost use Rattle.floor.specs.Floor.{floor_s};
 ghost use Rattle.whole.specs.Whole.{whole_s};
 ghost use Rattle.sinpi.specs.Sinpi.{sinpi_s};
-ghost use Rattle.tgamma.specs.Tgamma.{MINUS_PI, FACT, dy_s, last_s, lanczos_s, vanished_s, general_s, integer_s, tgamma_s};
+ghost use Rattle.tgamma.specs.Tgamma.{MINUS_PI, dy_s, last_s, lanczos_s, vanished_s, general_s, integer_s, tgamma_s};
 
 use crate::lanczos::s;
 use exp::exp;
@@ -34,47 +34,45 @@ const MINUS_PI: f64 = -3.141592653589793238462643383279502884;
 
 const MINUS_ZERO: f64 = -0.0;
 
+const X1P1023: f64 = f64::from_bits(0x7fe0000000000000);
+
 /* n! for small integer n */
-// A match, of which the compiler makes a table in the constants; an array would be stored to the stack at each lookup.
-fn fact(n: usize) -> f64
-    requires { n ≤ 22 }
-    ensures { result ≡ get_or FACT n nan }
-{
-    match n {
-        0 => 1.0,
-        1 => 1.0,
-        2 => 2.0,
-        3 => 6.0,
-        4 => 24.0,
-        5 => 120.0,
-        6 => 720.0,
-        7 => 5040.0,
-        8 => 40320.0,
-        9 => 362880.0,
-        10 => 3628800.0,
-        11 => 39916800.0,
-        12 => 479001600.0,
-        13 => 6227020800.0,
-        14 => 87178291200.0,
-        15 => 1307674368000.0,
-        16 => 20922789888000.0,
-        17 => 355687428096000.0,
-        18 => 6402373705728000.0,
-        19 => 121645100408832000.0,
-        20 => 2432902008176640000.0,
-        21 => 51090942171709440000.0,
-        _ => 1124000727777607680000.0,
-    }
-}
+// A static, which a look-up reads in place; a constant would be stored to the stack each time.
+static FACT: [f64; 23] = [
+    1.0,
+    1.0,
+    2.0,
+    6.0,
+    24.0,
+    120.0,
+    720.0,
+    5040.0,
+    40320.0,
+    362880.0,
+    3628800.0,
+    39916800.0,
+    479001600.0,
+    6227020800.0,
+    87178291200.0,
+    1307674368000.0,
+    20922789888000.0,
+    355687428096000.0,
+    6402373705728000.0,
+    121645100408832000.0,
+    2432902008176640000.0,
+    51090942171709440000.0,
+    1124000727777607680000.0,
+];
 
 // |x|
-fn size(x: f64, sign: u32) -> f64
-    ensures { result ≡ (if sign =? 1 then neg x else x) }
+fn size(x: f64) -> f64
+    ensures { result ≡ (if sign_s binary64 x =? 1 then neg x else x) }
 {
-    if sign == 1 { -x } else { x }
+    if sign(x) == 1 { -x } else { x }
 }
 
 // The error of x + g - 0.5.
+#[tactic(auto, unfolding(crate::specs::Tgamma::dy_s))]
 fn correction(absx: f64, y: f64) -> f64
     ensures { result ≡ dy_s absx y }
 {
@@ -85,6 +83,7 @@ fn correction(absx: f64, y: f64) -> f64
 }
 
 // The rest of the formula, from the correction of r on.
+#[tactic(auto, unfolding(crate::specs::Tgamma::last_s))]
 fn last(y: f64, dy: f64, z: f64, r: f64) -> f64
     ensures { result ≡ last_s y dy z r }
 {
@@ -111,10 +110,11 @@ fn reflected(x: f64, absx: f64, r: f64) -> f64
 }
 
 // The formula itself, for a size below 184. `last`, with its pow, is called once, for either sign of x.
-fn by_lanczos(x: f64, sign: u32) -> f64
-    ensures { result ≡ lanczos_s x sign }
+#[tactic(auto, unfolding(crate::specs::Tgamma::lanczos_s))]
+fn by_lanczos(x: f64) -> f64
+    ensures { result ≡ lanczos_s x (sign_s binary64 x) }
 {
-    let absx = size(x, sign);
+    let absx = size(x);
     let y = absx + GMHALF;
     let dy = correction(absx, y);
     let z = absx - 0.5;
@@ -123,6 +123,7 @@ fn by_lanczos(x: f64, sign: u32) -> f64
 }
 
 // x <= -184: tgamma(x) = +-0
+#[tactic(auto, unfolding(crate::specs::Tgamma::vanished_s))]
 fn vanished(x: f64) -> f64
     ensures { result ≡ vanished_s x }
 {
@@ -133,41 +134,44 @@ fn vanished(x: f64) -> f64
 }
 
 // What is left beside the integers up to 23 and the negative ones.
-fn general(x: f64, ix: u32, sign: u32) -> f64
-    ensures { result ≡ general_s x ix sign }
+#[tactic(auto, unfolding(crate::specs::Tgamma::general_s))]
+fn general(x: f64, ix: u32) -> f64
+    ensures { result ≡ general_s x ix (sign_s binary64 x) }
 {
     if ix >= 0x4067_0000 {
         /* |x| >= 184 */
-        if sign == 1 {
+        if sign(x) == 1 {
             return vanished(x);
         }
-        return x * f64::from_bits(0x7fe0000000000000);
+        return x * X1P1023;
     }
-    by_lanczos(x, sign)
+    by_lanczos(x)
 }
 
 /* integer arguments */
 // n is the whole part of x.
-fn integer(x: f64, n: i32, ix: u32, sign: u32) -> f64
-    requires { (Ieee.eq x (floor_s binary64 x) ≡ true) × (n ≡ whole_s x) × (0x3C900000 ≤ ix) × (ix ≡ size_word_s x) × (sign ≡ sign_s binary64 x) }
-    ensures { result ≡ integer_s x ix sign }
+#[tactic(auto, unfolding(crate::specs::Tgamma::integer_s))]
+fn integer(x: f64, n: i32, ix: u32) -> f64
+    requires { (Ieee.eq x (floor_s binary64 x) ≡ true) × (n ≡ whole_s x) × (0x3C900000 ≤ ix) × (ix ≡ size_word_s x) }
+    ensures { result ≡ integer_s x ix (sign_s binary64 x) }
 {
-    if sign == 1 {
-        return 0.0 / 0.0;
+    if sign(x) == 1 {
+        return f64::NAN;
     }
     if x <= 23.0 {
-        return fact(n as usize - 1);
+        return FACT[n as usize - 1];
     }
-    general(x, ix, sign)
+    general(x, ix)
 }
 
+#[tactic(auto, using(whole::proofs::WholeLaws::whole_held, crate::proofs::WholeTest::has_floor), unfolding(crate::specs::Tgamma::tgamma_s))]
 pub fn tgamma(x: f64) -> f64
     ensures { result ≡ tgamma_s x }
 {
     let ix = size_word(x);
     if ix >= 0x7ff0_0000 {
         /* tgamma(nan)=nan, tgamma(inf)=inf, tgamma(-inf)=nan */
-        return x + f64::from_bits(0x7ff0000000000000);
+        return x + f64::INFINITY;
     }
     if ix < 0x3c90_0000 {
         /* |x| < 2^-54: tgamma(x) ~ 1/x */
@@ -176,7 +180,7 @@ pub fn tgamma(x: f64) -> f64
     let w = whole(x);
     if w.fraction {
         // x != floor(x)
-        return general(x, ix, sign(x));
+        return general(x, ix);
     }
-    integer(x, w.number, ix, sign(x))
+    integer(x, w.number, ix)
 }

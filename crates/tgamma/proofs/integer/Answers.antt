@@ -1,44 +1,45 @@
 -- `tgamma::integer` meets its contract. Assumes nothing.
 use mathlib.Core.Path.{◌≡◌, ◌∙◌}
+use mathlib.Core.Bool.{true}
+use Prim.Native.Nat.{ℕ, ◌≤◌}
 use native.Mathlib.Omega.{arith}
-use lib.IntN.{pos}
-use lib.Ieee.{of_bits, div}
+use lib.IntN.{ℤ, pos}
+use lib.Ieee.{Float, binary64, of_bits, eq, le, fits}
 use mir.Syntax.{w32}
-use mir.Val.{to_z, of_z}
+use mir.Val.{SFits, to_z, of_z}
 use mir.ValLaws.{to_z-of_z}
-use borrow.Author.Tests.{eq-eqb, ne_eqb}
+use borrow.Author.Tests.{eq-eqb}
+use Rattle.words.specs.Bits.{size_word_s, sign_s}
+use Rattle.floor.specs.Floor.{floor_s}
+use Rattle.whole.specs.Whole.{whole_s}
 use Rattle.whole.proofs.WholeBounds.{Plus}
-use Rattle.tgamma.specs.Tgamma.{integer_s}
+use Rattle.tgamma.specs.Tgamma.{23·0, integer_s}
 use Rattle.tgamma.proofs.FactIndex.{fact_index}
 use Rattle.tgamma.proofs.integer.Goals as goal
 
 pub returns-then-sign-eq1 : goal.returns-then-sign-eq1
-unfolding integer_s div of_bits
-returns-then-sign-eq1 c = simp (eq-eqb _ _ c.if-sign-eq1.true)
+unfolding integer_s of_bits
+returns-then-sign-eq1 c = simp (eq-eqb _ _ (rw c.sign.ensures at c.if-sign-eq1.true))
 
--- x is a whole number from 1 to 23
-index : (c : goal.Then-x) → Plus 1 23 c.args.x
-index c =
-    let h = c.requires in
-    fact_index c.args.x c.well_formed.0.1 (h.0, rw h.3 at h.2, (λ e. c.if-sign-eq1.false (h.4 ∙ e)), c.if-x.true)
+-- x is a whole number from 1 to 23, and n is that number
+place : (x : Float) (n : ℤ) (ix : ℕ) → fits binary64 x ≡ true → SFits w32 n
+    → (eq x (floor_s binary64 x) ≡ true) × (n ≡ whole_s x) × (0x3C900000 ≤ ix) × (ix ≡ size_word_s x)
+    → (sign_s binary64 x ≡ 1 → ⊥) → le x 23·0 ≡ true → (p : Plus 1 23 x) × (to_z w32 (of_z w32 n) ≡ pos p.q)
+place x n ix F r h s l =
+    let p = fact_index x F (h.0, rw h.3 at h.2, s, l) in
+    (p, to_z-of_z w32 n r ∙ h.1 ∙ p.is)
 
--- and n is that number
-held : (c : goal.Then-x) → to_z w32 (of_z w32 c.args.n) ≡ pos (index c).q
-held c = to_z-of_z w32 c.args.n c.ranges.n ∙ c.requires.1 ∙ (index c).is
+pub overflow_cast-result : goal.overflow_cast-result
+overflow_cast-result c =
+    let p = place _ _ _ c.well_formed.0.1 c.ranges.n c.requires (rw c.sign.ensures at c.if-sign-eq1.false) c.if-x.true in
+    rw p.1 (tt, record { fits = omega (arith, p.0.upto) })
 
-pub overflow_cast-n : goal.overflow_cast-n
-overflow_cast-n c = rw (held c) (tt, record { fits = omega (arith, (index c).upto) })
+pub overflow_sub-result : goal.overflow_sub-result
+overflow_sub-result c =
+    let p = place _ _ _ c.well_formed.0.1 c.ranges.n c.requires (rw c.sign.ensures at c.if-sign-eq1.false) c.if-x.true in
+    rw p.1 (omega (arith, p.0.from))
 
-pub overflow_sub-n : goal.overflow_sub-n
-overflow_sub-n c = rw (held c) (omega (arith, (index c).from))
-
-pub fact-requires : goal.fact-requires
-fact-requires c = rw (held c) (omega (arith, (index c).upto))
-
-pub returns-then-x : goal.returns-then-x
-unfolding integer_s
-returns-then-x c = simp (ne_eqb _ _ c.if-sign-eq1.false, c.if-x.true) (rw (c.fact.ensures, held c.before, (index c.before).is))
-
-pub returns : goal.returns
-unfolding integer_s
-returns c = simp (ne_eqb _ _ c.if-sign-eq1.false, c.if-x.false) c.general.ensures
+pub bounds-n : goal.bounds-n
+bounds-n c =
+    let p = place _ _ _ c.well_formed.0.1 c.ranges.n c.requires (rw c.sign.ensures at c.if-sign-eq1.false) c.if-x.true in
+    rw p.1 (omega (arith, p.0.upto))
