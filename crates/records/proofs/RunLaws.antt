@@ -14,8 +14,8 @@ use Rattle.records.specs.Reply.{bytes_of}
 use Rattle.records.specs.Row.{Row, row_in}
 use Rattle.records.specs.declared.Code.{Code}
 use Rattle.records.specs.declared.Code.TheVariants.{Done, Unknown, Cut, Full}
-use Rattle.records.specs.Tally.{nothing}
 use Rattle.records.specs.Run.{Out, stop, ahead, took, choose, one, next, steps_by, run_by, run}
+use Rattle.records.specs.Lawful.{Sound, Lawful}
 use Rattle.records.specs.declared.Tally.{Tally}
 
 -- what is so of both sides of a test, under its outcome, is so of its choice
@@ -35,13 +35,6 @@ choose_elim P w left room x unknown cut full whole =
     (λ f. full (eqb-false w 0 z) (ltb-false left w c) (ltb-true room (length x) f))
     (λ f. whole (eqb-false w 0 z) (ltb-false left w c) (ltb-false room (length x) f))))
 
--- a record counts nothing and writes nothing, or takes one byte at least, of those that are there, and writes within the room
-pub record Sound (s : List ℕ) (room : ℕ) (o : Out) : Type 0 where
-  pub stops : o.tally.records ≡ 0 → (o.tally ≡ nothing) × (o.bytes ≡ [])
-  pub goes : (o.tally.records ≡ 0 → ⊥) → (o.tally.records ≡ 1) × ((0 < o.tally.read) × (o.tally.read ≤ length s))
-  pub fits : o.tally.written ≤ room
-  pub counts : o.tally.written ≡ length o.bytes
-
 pub stop_sound : (s : List ℕ) (room : ℕ) (c : Code) → Sound s room (stop c)
 stop_sound s room c = record { stops = λ h. (refl, refl); goes = λ h. absurd (h refl); fits = omega arith; counts = refl }
 
@@ -52,10 +45,6 @@ took_sound k s room w x h l = record {
   fits = l;
   counts = refl;
 }
-
--- a step all of whose outcomes are so
-abbrev pub Lawful : (List ℕ → ℕ → Out) → Type 0
-Lawful S = (s : List ℕ) (room : ℕ) → Sound s room (S s room)
 
 -- what the tests choose is so, of a body that stands behind a byte
 pub choose_sound : (k : ℕ) (s : List ℕ) (room w : ℕ) (x : List ℕ) → Sound (k ∷ s) room (choose w (length s) room x)

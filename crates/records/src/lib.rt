@@ -2,6 +2,8 @@
 // kind is a width and a reply. What a run does with a table is defined in specs/, and its laws are in proofs/.
 #![tactic(auto)]
 
+mod runs;
+
 ghost use Rattle.std.specs.Prelude.{◌≡◌};
 ghost use Rattle.std.proofs.lemmas.List.Edits.{sets};
 ghost use Rattle.records.specs.Reply.{bytes_of};
@@ -10,6 +12,7 @@ ghost use Rattle.records.specs.Tally.{nothing};
 ghost use Rattle.records.specs.declared.Code.TheVariants.{Done};
 
 use digits::put;
+pub use runs::{Step, run};
 
 // An answer before it is written: its first byte, then `width` bytes of `bits` and `more` bytes of `extra`.
 #[derive(Clone, Copy)]
