@@ -15,8 +15,6 @@ use mathlib.Core.List.{List, [], ◌∷◌, ◌++◌, append_assoc, append-nil}
 use mathlib.Core.Logic.{⊎_elim}
 use Prim.Native.Nat.{ℕ, suc, ◌+◌, ◌-◌, ◌≤◌, ◌<◌, min}
 use native.Mathlib.Omega.{arith}
-use borrow.Author.Tests.{ltb-false}
-use lib.Dec.{ltb}
 use lib.ListN.{length, drop, length-append, length-drop}
 use lib.Seq.{drop-drop, drop_at}
 use Rattle.words.specs.Tests.{◌=?◌}
@@ -26,37 +24,20 @@ use Rattle.kinds.specs.Kinds.{shape_of}
 use Rattle.records.specs.declared.Code.{Code}
 use Rattle.records.specs.declared.Code.TheVariants.{Done, Unknown, Cut, Full}
 use Rattle.records.specs.Run.{Out, stop, took, ahead, choose}
-use Rattle.records.proofs.RunLaws.{pick_elim, Sound, stop_sound, took_sound, choose_sound, Lawful, by_refused, by_took}
+use Rattle.records.proofs.RunLaws.{by_refused, by_took}
 use Rattle.records.proofs.SplitLaws.{ahead_assoc, ahead_none, ahead_stop}
 use Rattle.records.proofs.StepLaws.{choose_unknown, choose_cut, choose_full, choose_whole}
-use Rattle.text.specs.Names.{Name, names}
+use Rattle.text.specs.Names.{names}
 use Rattle.text.specs.Line.{asked, line_of}
 use Rattle.text.specs.Text.{NEWLINE, onto, lines, closed, text_of}
 use Rattle.text.specs.Trip.{record_of, first_line, as_request, to_request, forth, body_in, to_line, back}
 use Rattle.text.specs.Promises.{Good, request_of, requests_of, turned, ended, restored, ForthGood, ForthBad, ForthFull, ThereAndBack, BackStops, OneText}
 use Rattle.text.specs.declared.Asked.{Asked}
 use Rattle.text.specs.declared.Asked.TheVariants.{Bad, Ask}
+use Rattle.text.specs.Steps.{request_lawful, line_lawful}
 use Rattle.text.proofs.TextLaws.{text_lines}
 use Rattle.text.proofs.LineLaws.{bad_or_ask, line_back, ask_small, body_of, body_none, ask_body}
 use Rattle.text.proofs.PlaceLaws.{length_record, as_whole, as_full}
-
--- ---- the steps
-as_sound : (c : ℕ) (s : List ℕ) (room n : ℕ) (a : Asked) → n ≤ length s → Sound (c ∷ s) room (as_request n room a)
-as_sound c s room n Bad h = stop_sound (c ∷ s) room Unknown
-as_sound c s room n (Ask k b) h =
-    let x = record_of k b in
-    pick_elim (Sound (c ∷ s) room) (ltb room (length x)) (stop Full) (took n x) (λ _. stop_sound (c ∷ s) room Full)
-    (λ f. took_sound c s room n x h (ltb-false room (length x) f))
-
-pub request_lawful : (N : List Name) → Lawful (to_request N)
-unfolding to_request
-request_lawful N [] room = stop_sound [] room Done
-request_lawful N (c ∷ s) room = as_sound c s room (min (length (first_line (c ∷ s))) (length s)) (asked N (first_line (c ∷ s))) (omega arith)
-
-pub line_lawful : (N : List Name) → Lawful (to_line N)
-unfolding to_line
-line_lawful N [] room = stop_sound [] room Done
-line_lawful N (k ∷ s) room = let w = body_in N k in choose_sound k s room w (closed (line_of N k (word w s)))
 
 -- ---- the first line and those behind it
 -- how many bytes are read behind the first
