@@ -5,6 +5,7 @@ pub mod Line
 pub mod Text
 pub mod Reply
 pub mod Trip
+pub mod Steps
 pub mod Typing
 pub mod Promises
 pub mod Rows

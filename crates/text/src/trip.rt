@@ -1,64 +1,65 @@
 // Text to the request stream and back, over lent buffers: a line a record. Reports and codes are the batch's; what is bad as a line stops the
 // one as an unknown kind, and a kind without a name the other.
-ghost use Rattle.std.specs.Prelude.{◌≡◌, ◌+◌, ◌-◌, ◌*◌, ◌≤◌, ◌<◌, ◌++◌, length, take, drop};
+ghost use Rattle.std.specs.Prelude.{◌≡◌, ◌+◌, ◌*◌, ◌≤◌, ◌<◌, ◌++◌, length, take};
 ghost use Rattle.std.proofs.lemmas.List.Edits.{sets};
 ghost use Rattle.records.specs.Did.{Did};
 ghost use Rattle.hexadecimal.specs.Hex.{hex};
 ghost use Rattle.text.specs.Names.{names};
 ghost use Rattle.text.specs.Text.{closed};
 ghost use Rattle.text.specs.Trip.{record_of, first_line, to_request, forth, to_line, back};
+ghost use Rattle.text.specs.Steps.{request_lawful, line_lawful};
 
 use crate::names::{Row, name_of};
 use crate::{Asked, ask, put_all};
 use digits::get;
 use kinds::body;
-use records::{CUT, DONE, FULL, Report, Tally, UNKNOWN, stopped, took};
+use records::{Code, Report, Step, run, stopped, took};
 
-// Where the line from `at` on ends: the place of its newline, or the end of the text.
-fn line_end(text: &[u8], at: usize) -> usize
-    requires { at ≤ length text.now }
-    ensures { result ≡ at + length (first_line (drop at text.now)) }
+// How long the first line of a text is: up to its newline, or to the end of the text.
+fn line_end(text: &[u8]) -> usize
+    ensures { result ≡ length (first_line text.now) }
 {
-    let mut i = at;
-    while i < text.len() {
-        if text[i] == b'\n' {
-            return i;
+    text.iter()
+        .position(|byte| *byte == b'\n')
+        .unwrap_or(text.len())
+}
+
+// Writes the request for a kind and bits at the front, where there is room for it.
+fn put_record(requests: &mut [u8], kind: u8, bits: u64)
+    requires { 0 < length requests.old }
+    ensures { requests.new ≡ sets requests.old 0 (record_of kind bits) }
+{
+    requests[0] = kind;
+    digits::put(requests, 1, body(kind), bits);
+}
+
+// The lines of a text, each to become a request.
+struct Lines;
+
+impl Step for Lines {
+    ghost step_s = { to_request names };
+
+    ghost lawful = { request_lawful names };
+
+    // The line at the front of the text, as a request at the front of `requests`.
+    fn step(text: &[u8], requests: &mut [u8]) -> Report {
+        if text.is_empty() {
+            return stopped(Code::Done);
         }
-        i = i + 1;
-    }
-    i
-}
-
-// Writes the request for a kind and bits at `out`, where there is room for it.
-fn put_record(requests: &mut [u8], out: usize, kind: u8, bits: u64)
-    requires { out < length requests.old }
-    ensures { requests.new ≡ sets requests.old out (record_of kind bits) }
-{
-    requests[out] = kind;
-    digits::put(requests, out + 1, body(kind), bits);
-}
-
-// The line at `at`, as a request at `out`.
-fn request_step(text: &[u8], at: usize, requests: &mut [u8], out: usize) -> Report
-    requires { (at ≤ length text.now) × (out ≤ length requests.old) }
-    ensures { Did (to_request names (drop at text.now) (length requests.old - out)) result out requests.old requests.new }
-{
-    if text.len() <= at {
-        return stopped(DONE);
-    }
-    let end = line_end(text, at);
-    match ask(&text[at..end]) {
-        Asked::Bad => stopped(UNKNOWN),
-        Asked::Ask(kind, bits) => {
-            let n = 1 + body(kind);
-            if requests.len() - out < n {
-                return stopped(FULL);
-            }
-            put_record(requests, out, kind, bits);
-            if end < text.len() {
-                took(end + 1 - at, n)
-            } else {
-                took(end - at, n)
+        let end = line_end(text);
+        match ask(&text[..end]) {
+            Asked::Bad => stopped(Code::Unknown),
+            Asked::Ask(kind, bits) => {
+                let n = 1 + body(kind);
+                if requests.len() < n {
+                    return stopped(Code::Full);
+                }
+                put_record(requests, kind, bits);
+                if end < text.len() {
+                    took(end + 1, n)
+                } else {
+                    took(end, n)
+                }
             }
         }
     }
@@ -68,66 +69,49 @@ fn request_step(text: &[u8], at: usize, requests: &mut [u8], out: usize) -> Repo
 pub fn requests_of(text: &[u8], requests: &mut [u8]) -> Report
     ensures { Did (forth names text.now (length requests.old)) result 0 requests.old requests.new }
 {
-    let mut records = 0;
-    let mut read = 0;
-    let mut written = 0;
-    loop {
-        let t = request_step(text, read, requests, written);
-        let one = t.tally;
-        if one.records == 0 {
-            return Report {
-                code: t.code,
-                tally: Tally {
-                    records,
-                    read,
-                    written,
-                },
-            };
-        }
-        records = records + one.records;
-        read = read + one.read;
-        written = written + one.written;
-    }
+    run::<Lines>(text, requests)
 }
 
-// Writes the line of a row and bits at `out`, with its newline, where there is room for it.
-fn put_line(text: &mut [u8], out: usize, n: Row, width: usize, bits: u64)
-    requires { (n.length ≤ 10) × ((width ≤ 8) × (out + n.length + 2 * width < length text.old)) }
-    ensures { text.new ≡ sets text.old out (closed (take n.length n.head ++ hex (2 * width) bits)) }
+// Writes the line of a row and bits at the front, with its newline, where there is room for it.
+fn put_line(text: &mut [u8], n: Row, width: usize, bits: u64)
+    requires { (n.length ≤ 10) × ((width ≤ 8) × (n.length + 2 * width < length text.old)) }
+    ensures { text.new ≡ sets text.old 0 (closed (take n.length n.head ++ hex (2 * width) bits)) }
 {
     let letters = n.head;
     let head = n.length;
-    put_all(text, out, &letters[..head]);
-    let place = out + head;
-    hexadecimal::put(text, place, 2 * width, bits);
-    text[place + 2 * width] = b'\n';
+    put_all(text, 0, &letters[..head]);
+    hexadecimal::put(text, head, 2 * width, bits);
+    text[head + 2 * width] = b'\n';
 }
 
-// The record at `at`, as a line at `out`.
-fn line_step(requests: &[u8], at: usize, text: &mut [u8], out: usize) -> Report
-    requires { (at ≤ length requests.now) × (out ≤ length text.old) }
-    ensures { Did (to_line names (drop at requests.now) (length text.old - out)) result out text.old text.new }
-{
-    if requests.len() <= at {
-        return stopped(DONE);
+// The records of a request stream, each to become a line.
+struct Records;
+
+impl Step for Records {
+    ghost step_s = { to_line names };
+
+    ghost lawful = { line_lawful names };
+
+    // The record at the front of `requests`, as a line at the front of the text.
+    fn step(requests: &[u8], text: &mut [u8]) -> Report {
+        let Some((&kind, rest)) = requests.split_first() else {
+            return stopped(Code::Done);
+        };
+        let n = name_of(kind);
+        if n.length == 0 {
+            return stopped(Code::Unknown);
+        }
+        let width = body(kind);
+        if rest.len() < width {
+            return stopped(Code::Cut);
+        }
+        let length = n.length + 2 * width + 1;
+        if text.len() < length {
+            return stopped(Code::Full);
+        }
+        put_line(text, n, width, get(rest, 0, width));
+        took(1 + width, length)
     }
-    let kind = requests[at];
-    let n = name_of(kind);
-    if n.length == 0 {
-        return stopped(UNKNOWN);
-    }
-    let width = body(kind);
-    let place = at + 1;
-    if requests.len() - place < width {
-        return stopped(CUT);
-    }
-    let head = n.length;
-    let length = head + 2 * width + 1;
-    if text.len() - out < length {
-        return stopped(FULL);
-    }
-    put_line(text, out, n, width, get(requests, place, width));
-    took(1 + width, length)
 }
 
 // Turns requests into the lines that ask for them, from the front, until the requests are used up, a kind has no name (code 1), a record is
@@ -135,24 +119,5 @@ fn line_step(requests: &[u8], at: usize, text: &mut [u8], out: usize) -> Report
 pub fn text_of(requests: &[u8], text: &mut [u8]) -> Report
     ensures { Did (back names requests.now (length text.old)) result 0 text.old text.new }
 {
-    let mut records = 0;
-    let mut read = 0;
-    let mut written = 0;
-    loop {
-        let t = line_step(requests, read, text, written);
-        let one = t.tally;
-        if one.records == 0 {
-            return Report {
-                code: t.code,
-                tally: Tally {
-                    records,
-                    read,
-                    written,
-                },
-            };
-        }
-        records = records + one.records;
-        read = read + one.read;
-        written = written + one.written;
-    }
+    run::<Records>(requests, text)
 }

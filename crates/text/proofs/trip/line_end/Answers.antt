@@ -1,27 +1,22 @@
--- `text::trip::line_end` meets its contract: the line from `at` on is the bytes passed and the line from here on. Assumes nothing.
-use mathlib.Core.Path.{refl, ap}
-use native.Mathlib.Omega.{arith}
+-- `text::trip::line_end` meets its contract: the place of the first newline is the length of the first line. Assumes nothing.
+use mathlib.Core.Path.{sym, ap, ◌∙◌}
+use Prim.Native.Nat.{ℕ}
 use lib.ListN.{length}
-use Rattle.text.proofs.PlaceLaws.{first_end, first_here, first_more}
+use Rattle.std.proofs.Common.{rules, tests, cond, Some, None}
+use lib.Dec.{ltb}
+use Rattle.std.proofs.lemmas.Iterator.{YieldsList-from_slice}
+use Rattle.std.proofs.lemmas.Iterator.Search.{position_from_yields_List}
+use Rattle.std.specs.Option.{unwrap_or}
+use Rattle.words.specs.Tests.{◌=?◌}
+use Rattle.text.specs.Text.{NEWLINE}
+use Rattle.text.specs.Trip.{first_line}
+use Rattle.text.proofs.PlaceLaws.{first_in, first_place, place_or_end}
 use Rattle.text.proofs.trip.line_end.Goals as goal
-
-pub loop-i-init : goal.loop-i-init
-loop-i-init c = (c.requires, refl)
-
-pub returns-then-text-i-eq10 : goal.returns-then-text-i-eq10
-returns-then-text-i-eq10 c =
-    let l = c.loop-i in
-    let s = c.args.text.now in
-    omega (arith, ap length (first_here s l.i (omega arith) c.if-text-i-eq10.true), l.invariant.1)
-
-pub loop-i-preserved : goal.loop-i-preserved
-loop-i-preserved c =
-    let l = c.loop-i in
-    let s = c.args.text.now in
-    (omega arith, omega (arith, ap length (first_more s l.i (omega arith) c.if-text-i-eq10.false), l.invariant.1))
 
 pub returns : goal.returns
 returns c =
-    let l = c.loop-i in
     let s = c.args.text.now in
-    omega (arith, ap length (first_end s l.i (omega arith)), l.invariant.1)
+    let found = position_from_yields_List (λ (b : ℕ). b =? NEWLINE) _ _ _ c.position.ensures.ran (YieldsList-from_slice s cc) (λ x b q k. search (rules, tests)) in
+    c.unwrap_or.ensures ∙ ap (λ p. unwrap_or p (length s)) found
+    ∙ ap (λ (n : ℕ). unwrap_or (cond (ltb n (length s)) (Some n) None) (length s)) (sym (first_place s))
+    ∙ place_or_end (length (first_line s)) (length s) (first_in s)

@@ -12,13 +12,13 @@ use Rattle.hexadecimal.proofs.HexLaws.{length_hex}
 use Rattle.text.specs.Text.{NEWLINE, closed}
 use Rattle.text.proofs.trip.put_line.Goals as goal
 
--- two runs of stores, one behind the other, and a newline behind them
-three : (l m r : List ℕ) (i : ℕ) (x y : List ℕ) (a b : ℕ) → length x ≡ a → length y ≡ b → m ≡ sets l i x → r ≡ sets m (i + a) y →
-    set r (i + a + b) NEWLINE ≡ sets l i (closed (x ++ y))
-three l m r i x y a b ea eb em er =
-    let both : r ≡ sets l i (x ++ y) = rw (er, em, ← ea) (sets_append x y l i) in
-    let n : i + a + b ≡ i + length (x ++ y) = omega (arith, length-append x y) in
-    rw (both, n) (sets_append (x ++ y) (NEWLINE ∷ []) l i)
+-- two runs of stores at the front, one behind the other, and a newline behind them
+three : (l m r x y : List ℕ) (a b : ℕ) → length x ≡ a → length y ≡ b → m ≡ sets l 0 x → r ≡ sets m a y → set r (a + b) NEWLINE ≡ sets l 0 (closed (x ++ y))
+three l m r x y a b ea eb em er =
+    let here : a ≡ 0 + length x = omega arith in
+    let both : r ≡ sets l 0 (x ++ y) = rw (er, em, here) (sets_append x y l 0) in
+    let n : a + b ≡ 0 + length (x ++ y) = omega (arith, length-append x y) in
+    rw (both, n) (sets_append (x ++ y) (NEWLINE ∷ []) l 0)
 
 pub slice_bounds-letters-end : goal.slice_bounds-letters-end
 slice_bounds-letters-end c =
@@ -37,5 +37,5 @@ returns c =
     let p = c.put_all in
     let q = c.put in
     let l : length a.n.head ≡ 10 = search rules in
-    three a.text.now p.new.out q.new.s a.out (take a.n.length a.n.head) (hex (2 * a.width) a.bits) a.n.length (2 * a.width)
+    three a.text.now p.new.out q.new.s (take a.n.length a.n.head) (hex (2 * a.width) a.bits) a.n.length (2 * a.width)
     (length-take-le a.n.length a.n.head (omega arith)) (length_hex (2 * a.width) a.bits) p.ensures q.ensures
