@@ -1,5 +1,5 @@
 -- What the program `answers` does in a turn, which makes it a program in turns (session/specs/Session).
-use Rattle.std.specs.Prelude.{List, [], ◌∷◌, ◌++◌, ℕ, drop}
+use Rattle.std.specs.Prelude.{List, [], ◌∷◌, ◌++◌, ℕ, drop, Some}
 use Rattle.replies.specs.Table.{table}
 use Rattle.records.specs.Run.{Out, run}
 use Rattle.decide.specs.Decide.{closing_s}
@@ -25,4 +25,4 @@ answering room =
 
 -- a batch, and the closing bytes
 abbrev pub closed : Out → Said
-closed o = record { bytes = o.bytes ++ (255 ∷ (o.code ∷ [])); code = o.code }
+closed o = record { bytes = o.bytes ++ (255 ∷ (o.code ∷ [])); code = Some o.code }
