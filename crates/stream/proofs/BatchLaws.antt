@@ -11,6 +11,7 @@ use Rattle.digits.proofs.DigitLaws.{word_take, word_below}
 use Rattle.kinds.specs.Kinds.{shape_of}
 use Rattle.kinds.proofs.ShapeLaws.{body_small}
 use Rattle.records.specs.declared.Reply.{Reply}
+use Rattle.records.specs.Codes.{number_s}
 use Rattle.records.specs.Row.{row_in}
 use Rattle.replies.specs.Table.{table, reply_s}
 use Rattle.replies.proofs.TableLaws.{row_width, width_small, reply_light, reply_whole}
@@ -38,7 +39,7 @@ pub table_narrow : Narrow 8 table
 table_narrow = width_small
 
 -- with room for twice the requests a batch never stops with code 3
-pub enough_room : (s : List ℕ) (room : ℕ) → 2 * length s ≤ room → (run table s room).code ≤ 2
+pub enough_room : (s : List ℕ) (room : ℕ) → 2 * length s ≤ room → number_s (run table s room).code ≤ 2
 enough_room s room l = (run_easy table table_light s room l).0
 
 -- and more room changes nothing

@@ -11,7 +11,7 @@ ghost use Rattle.stream.specs.Post.{Rest, Front};
 
 use digits::get;
 use kinds::body;
-use records::{CUT, DONE, FULL, Report, Tally, UNKNOWN, stopped, took, write};
+use records::{Code, Report, Tally, stopped, took, write};
 use replies::reply_to;
 
 // The counts of one run and then of another.
@@ -32,21 +32,21 @@ fn step(requests: &[u8], at: usize, answers: &mut [u8], out: usize) -> Report
     ensures { Did (one table (drop at requests.now) (length answers.old - out)) result out answers.old answers.new }
 {
     if requests.len() <= at {
-        return stopped(DONE);
+        return stopped(Code::Done);
     }
     let kind = requests[at];
     let width = body(kind);
     if width == 0 {
-        return stopped(UNKNOWN);
+        return stopped(Code::Unknown);
     }
     let place = at + 1;
     if requests.len() - place < width {
-        return stopped(CUT);
+        return stopped(Code::Cut);
     }
     let r = reply_to(kind, get(requests, place, width));
     let n = 1 + r.width + r.more;
     if answers.len() - out < n {
-        return stopped(FULL);
+        return stopped(Code::Full);
     }
     write(answers, out, r);
     took(1 + width, n)

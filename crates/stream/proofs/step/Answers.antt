@@ -7,6 +7,7 @@ use lib.ListN.{length, take, drop, get_or}
 use Rattle.digits.specs.Digits.{word}
 use Rattle.kinds.specs.Kinds.{longest_answer, shape_of}
 use Rattle.records.specs.Reply.{bytes_of}
+use Rattle.records.specs.declared.Code.TheVariants.{Done, Unknown, Cut, Full}
 use Rattle.records.specs.declared.Reply.{Reply}
 use Rattle.records.specs.Row.{row_in}
 use Rattle.replies.specs.Table.{table, reply_s}
@@ -33,18 +34,18 @@ module _ (s : List ℕ) (at w b : ℕ) (r : Reply) (h : (i : ℕ) → get_or s i
 pub returns-then-requests-at : goal.returns-then-requests-at
 returns-then-requests-at c =
     let a = c.args in
-    did_stop _ _ 0 a.out a.answers.now c.stopped.ensures (at_end table a.requests.now a.at (length a.answers.now - a.out) c.if-requests-at.true)
+    did_stop _ _ Done a.out a.answers.now c.stopped.ensures (at_end table a.requests.now a.at (length a.answers.now - a.out) c.if-requests-at.true)
 
 pub returns-then-width-eq0 : goal.returns-then-width-eq0
 returns-then-width-eq0 c =
     let a = c.args in
-    did_stop _ _ 1 a.out a.answers.now c.stopped-then-width-eq0.ensures
+    did_stop _ _ Unknown a.out a.answers.now c.stopped-then-width-eq0.ensures
     (at_unknown table a.requests.now a.at (length a.answers.now - a.out) c.body-width.result (omega arith) (width_is _ _ c.body-width.ensures) c.if-width-eq0.true)
 
 pub returns-then-requests-place : goal.returns-then-requests-place
 returns-then-requests-place c =
     let a = c.args in
-    did_stop _ _ 2 a.out a.answers.now c.stopped-then-requests-place.ensures
+    did_stop _ _ Cut a.out a.answers.now c.stopped-then-requests-place.ensures
     (at_cut table a.requests.now a.at (length a.answers.now - a.out) c.body-width.result (omega arith) (width_is _ _ c.body-width.ensures)
     c.if-width-eq0.false (omega arith))
 
@@ -65,7 +66,7 @@ returns-then-answers-out c =
     let a = c.args in
     let r = c.reply_to-r.result in
     let n = length_bytes r in
-    did_stop _ _ 3 a.out a.answers.now c.stopped-then-answers-out.ensures
+    did_stop _ _ Full a.out a.answers.now c.stopped-then-answers-out.ensures
     (at_full table a.requests.now a.at (length a.answers.now - a.out) c.body-width.result (omega arith) (width_is _ _ c.body-width.ensures) (bytes_of r)
     (reply_is a.requests.now a.at c.body-width.result c.get.result r (λ i. (c.type_inv.requests i).fits) c.body-width.ensures c.get.ensures c.reply_to-r.ensures)
     c.if-width-eq0.false (omega arith) (omega arith))
