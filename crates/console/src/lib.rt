@@ -12,7 +12,7 @@ ghost use Rattle.replies.specs.Table.{table};
 ghost use Rattle.text.specs.Typing.{KEPT, typing};
 
 use decide::{Next, after, at_end};
-use records::DONE;
+use records::Code;
 use relay::answer;
 use session::port::{large_buffer, read};
 use std::io::{Stdin, Stdout};
@@ -26,7 +26,7 @@ fn pass(mut input: Stdin, output: Stdout, buf: &mut [u8], have: usize, replies: 
     let got = read(&mut input, &mut buf[have..]);
     let there = have + got.unwrap_or(0);
     let t = answer(output, buf, there, at_end(got), replies);
-    after(got, DONE, t.kept, t.sent)
+    after(got, Code::Done.into(), t.kept, t.sent)
 }
 
 // All turns, and 0 at the end of the input, or nothing where the input or the output failed. Nothing says that the input ends, so the turns are

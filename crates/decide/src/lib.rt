@@ -5,8 +5,7 @@
 ghost use Rattle.std.specs.Prelude.{◌≡◌, option_map};
 ghost use Rattle.decide.specs.Decide.{after_s, closing_s, end_s, at_end_s};
 
-// The number of the stop code of a kind that is not in the table.
-const UNKNOWN: u8 = 1;
+use records::Code;
 
 // What comes after a turn: another, with so many bytes carried over; the end, with the number of a stop code; or the end without one.
 #[derive(Clone, Copy)]
@@ -25,7 +24,7 @@ pub fn after(got: Option<usize>, code: u8, kept: usize, sent: bool) -> Next
     match got {
         None => Next::Break,
         Some(_) if !sent => Next::Break,
-        Some(_) if code == UNKNOWN => Next::Close(code),
+        Some(_) if code == Code::Unknown.into() => Next::Close(code),
         Some(0) => Next::Close(code),
         Some(_) => Next::Go(kept),
     }

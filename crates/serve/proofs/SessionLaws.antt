@@ -11,6 +11,9 @@ use native.Mathlib.Omega.{arith}
 use lib.ListN.{length, length-append, length-drop}
 use Rattle.std.specs.Prelude.{Option, Some, None, IfSome}
 use Rattle.replies.specs.Table.{table}
+use Rattle.records.specs.Codes.{number_s}
+use Rattle.records.specs.declared.Code.{Code}
+use Rattle.records.specs.declared.Code.TheVariants.{Done, Unknown, Cut, Full}
 use Rattle.records.specs.Run.{Out, ahead, run}
 use Rattle.stream.proofs.BatchLaws.{table_light, enough_room, batch_same, batches_are_whole}
 use Rattle.records.specs.Pieces.{whole}
@@ -24,14 +27,21 @@ use Rattle.session.specs.Post.{Served}
 use Rattle.session.proofs.SayLaws.{one_or, input, Front, end_came, stop_came, more_came, front_of, ended}
 use Rattle.serve.specs.Session.{there, done, left, answering, closed}
 
+-- the code of this number
+is_unknown : (c : Code) → number_s c ≡ 1 → c ≡ Unknown
+is_unknown Done e = absurd (omega (arith, e))
+is_unknown Unknown e = refl
+is_unknown Cut e = absurd (omega (arith, e))
+is_unknown Full e = absurd (omega (arith, e))
+
 -- what a batch adds to what the later turns say, where it goes on
-goes_on : (o rest : Out) → record { bytes = o.bytes ++ (closed rest).bytes; code = Some rest.code } ≡ closed (ahead o rest)
+goes_on : (o rest : Out) → record { bytes = o.bytes ++ (closed rest).bytes; code = Some (number_s rest.code) } ≡ closed (ahead o rest)
 goes_on o rest =
-    ap (λ (x : List ℕ). record { bytes = x; code = Some rest.code }) (sym (append_assoc o.bytes rest.bytes (255 ∷ (rest.code ∷ []))))
+    ap (λ (x : List ℕ). record { bytes = x; code = Some (number_s rest.code) }) (sym (append_assoc o.bytes rest.bytes (255 ∷ (number_s rest.code ∷ []))))
 
 -- in buffers of such sizes
 module _ (size room : ℕ) (h : 2 * size ≤ room) where
-  small : (rest : List ℕ) (g : Heard) → length rest + length (piece g) ≤ size → (done room rest g).code ≤ 2
+  small : (rest : List ℕ) (g : Heard) → length rest + length (piece g) ≤ size → number_s (done room rest g).code ≤ 2
   small rest g l = enough_room (there rest g) room (omega (arith, length-append rest (piece g)))
 
   -- the events of a cut input are batches with room enough
@@ -40,13 +50,13 @@ module _ (size room : ℕ) (h : 2 * size ≤ room) where
   roomy rest (p ∷ ps) f = (omega (arith, f.0, length-append rest p), roomy (left room rest (brought p)) ps f.1)
 
   -- an unknown kind: the later pieces add nothing
-  stays : (rest p : List ℕ) (ps : List (List ℕ)) → Roomy table room rest (p ∷ ps) → (run table (rest ++ p) room).code ≡ 1 →
+  stays : (rest p : List ℕ) (ps : List (List ℕ)) → Roomy table room rest (p ∷ ps) → number_s (run table (rest ++ p) room).code ≡ 1 →
       pieces table room rest (p ∷ ps) ≡ run table (rest ++ p) room
   stays rest p ps r u =
       let large = room + 2 * length (rest ++ (p ++ whole ps)) in
       batches_are_whole room rest (p ∷ ps) large r (omega arith)
       ∙ ap (λ (x : List ℕ). run table x large) (sym (append_assoc rest p (whole ps)))
-      ∙ stays_unknown table (rest ++ p) (whole ps) room large (omega arith) u
+      ∙ stays_unknown table (rest ++ p) (whole ps) room large (omega arith) (is_unknown _ u)
 
   by_pieces : (rest : List ℕ) (ps : List (List ℕ)) → NoneEmpty ps → Fits (answering room) size rest (delivered ps) →
       session (answering room) rest (delivered ps) ≡ closed (pieces table room rest ps)
@@ -64,7 +74,7 @@ module _ (size room : ℕ) (h : 2 * size ≤ room) where
       more_came (answering room) rest p (delivered ps) u s.0
       ∙ ap (λ (x : Said). record { bytes = o.bytes ++ x.bytes; code = x.code }) (by_pieces t ps s.1 f.1)
       ∙ goes_on o (pieces table room t ps))
-      (one_or o.code)
+      (one_or (number_s o.code))
 
   pub cuts_do_not_show : (ps : List (List ℕ)) (large : ℕ) → NoneEmpty ps → Fits (answering room) size [] (delivered ps) → 2 * length (whole ps) ≤ large →
       session (answering room) [] (delivered ps) ≡ closed (run table (whole ps) large)

@@ -24,7 +24,7 @@ fn pass(mut input: Stdin, output: Stdout, buf: &mut [u8], have: usize, answers: 
     let got = read(&mut input, &mut buf[have..]);
     let there = have + got.unwrap_or(0);
     let t = answer(output, buf, there, answers);
-    after(got, t.code, t.kept, t.sent)
+    after(got, t.code.into(), t.kept, t.sent)
 }
 
 // All turns, and the stop code, if there is one. Nothing says that the input ends, so the turns are counted, up to a number that no run reaches.

@@ -68,10 +68,11 @@ fn turn(mut input: Stdin, output: Stdout) -> bool {
     )
 }
 
-// Nothing says that the input ends, so the turns are counted down, from a number that no run uses up.
+// Nothing says that the input ends, so the turns are counted, up to a number that no run reaches.
 fn main(rt: HostRuntime) {
-    let mut turns = u64::MAX;
-    while turns > 0 && turn(rt.stdin(), rt.stdout()) {
-        turns = turns - 1;
+    for _ in 0..u64::MAX {
+        if !turn(rt.stdin(), rt.stdout()) {
+            return;
+        }
     }
 }
