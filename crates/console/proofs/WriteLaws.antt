@@ -3,7 +3,6 @@ use mathlib.Core.Path.{◌≡◌, refl, sym, ap, ◌∙◌, subst}
 use mathlib.Core.List.{List, [], ◌∷◌, ◌++◌, append_assoc}
 use Prim.Native.Nat.{ℕ, ◌+◌, ◌*◌, ◌^◌, ◌%◌, ◌≤◌, ◌<◌}
 use native.Mathlib.Omega.{arith}
-use borrow.Author.Tests.{eq-eqb, ne_eqb}
 use lib.ListN.{length, length-append}
 use lib.Seq.{sets}
 use Rattle.digits.proofs.StoreLaws.{sets_append}
@@ -20,7 +19,7 @@ use Rattle.text.specs.Reply.{BAD, sign_text, shown, reply_to}
 use Rattle.text.specs.declared.Asked.TheVariants.{Bad, Ask}
 use Rattle.text.proofs.LineLaws.{ask_small}
 use Rattle.text.proofs.ReplyLaws.{Narrow, reply_bad, reply_ask}
-use Rattle.console.specs.Post.{Wrote, last_reply}
+use Rattle.console.specs.Post.{Wrote}
 
 -- a text behind another, at the place behind it
 pub wrote_more : (x y out o p : List ℕ) (at m n : ℕ) → Wrote x at m out o → Wrote y m n o p → Wrote (x ++ y) at n out p
@@ -30,16 +29,6 @@ wrote_more x y out o p at m n f g = record {
       g.buffer ∙ ap (λ (l : List ℕ). sets l m y) f.buffer ∙ ap (λ (k : ℕ). sets (sets out at x) k y) f.place
       ∙ sets_append x y out at;
 }
-
--- what stands behind the value
-pub sign_none : (r : Reply) → r.more ≡ 0 → closed (sign_text r) ≡ NEWLINE ∷ []
-sign_none r e = rw (eq-eqb r.more 0 e)
-
-pub sign_plus : (r : Reply) → (r.more ≡ 0 → ⊥) → r.extra ≡ 1 → closed (sign_text r) ≡ SPACE ∷ (43 ∷ (NEWLINE ∷ []))
-sign_plus r h e = rw (ne_eqb r.more 0 h, eq-eqb r.extra 1 e)
-
-pub sign_minus : (r : Reply) → (r.more ≡ 0 → ⊥) → (r.extra ≡ 1 → ⊥) → closed (sign_text r) ≡ SPACE ∷ (45 ∷ (NEWLINE ∷ []))
-sign_minus r h e = rw (ne_eqb r.more 0 h, ne_eqb r.extra 1 e)
 
 -- a space, the digits, and what stands behind them
 module _ (r : Reply) (out o p q t : List ℕ) (at place n : ℕ) where
@@ -83,12 +72,3 @@ module _ (s out q : List ℕ) (at n : ℕ) where
         let z : s ++ y ≡ closed (reply_to table s) =
         sym (append_assoc s (shown (reply_s k b)) (NEWLINE ∷ [])) ∙ ap (λ (r : Reply). closed (s ++ shown r)) row_reply ∙ ap closed (sym (reply_ask table s k b e)) in
         record { place = g.place ∙ ap (λ (x : List ℕ). at + length x) z; buffer = g.buffer ∙ ap (sets out at) z }
-
--- the reply to a last line without newline
-pub last_none : (l out : List ℕ) (at : ℕ) → length l ≡ 0 → Wrote (last_reply l) at at out out
-last_none [] out at e = record { place = omega arith; buffer = refl }
-last_none (c ∷ l) out at e = absurd (omega arith)
-
-pub last_some : (l out q : List ℕ) (at n : ℕ) → (length l ≡ 0 → ⊥) → Wrote (closed (reply_to table l)) at n out q → Wrote (last_reply l) at n out q
-last_some [] out q at n h w = absurd (h refl)
-last_some (c ∷ l) out q at n h w = w

@@ -11,52 +11,43 @@ ghost use Rattle.session.specs.Post.{Passed, Ran};
 ghost use Rattle.replies.specs.Table.{table};
 ghost use Rattle.text.specs.Typing.{KEPT, typing};
 
-use decide::{BROKEN, Next, after, at_end};
-use port::read;
-use records::DONE;
+use decide::{Next, after, at_end};
+use records::Code;
 use relay::answer;
-use session::port::{count, large_buffer};
+use session::port::{large_buffer, read};
 use std::io::{Stdin, Stdout};
 
 // One turn: reads once behind the `have` bytes that are there, answers the lines, and says what comes next. Its code is 0: no line stops the
-// program.
-fn pass(input: Stdin, output: Stdout, buf: &mut [u8], have: usize, replies: &mut [u8]) -> Next
+// program. A read into no room would look like the end of the input.
+fn pass(mut input: Stdin, output: Stdout, buf: &mut [u8], have: usize, replies: &mut [u8]) -> Next
     requires { (have < length buf.old) × ((4 * length buf.old ≤ length replies.old) × (length replies.old ≤ 65536)) }
     ensures { Passed (typing table) (length buf.old) (take have buf.old) result buf.new }
 {
-    let got = read(input, &mut buf[have..]);
-    let there = have + count(got, &buf[have..]);
+    let got = read(&mut input, &mut buf[have..]);
+    let there = have + got.unwrap_or(0);
     let t = answer(output, buf, there, at_end(got), replies);
-    after(got, DONE, t.kept, t.sent)
+    after(got, Code::Done.into(), t.kept, t.sent)
 }
 
-// All turns, and 0 at the end of the input, or 255 where the input or the output failed. Nothing says that the input ends, so the turns are
-// counted down, from a number that no run uses up.
-fn turns(input: Stdin, output: Stdout, buf: &mut [u8], replies: &mut [u8]) -> u8
+// All turns, and 0 at the end of the input, or nothing where the input or the output failed. Nothing says that the input ends, so the turns are
+// counted, up to a number that no run reaches.
+fn turns(input: Stdin, output: Stdout, buf: &mut [u8], replies: &mut [u8]) -> Option<u8>
     requires { (KEPT < length buf.old) × ((4 * length buf.old ≤ length replies.old) × (length replies.old ≤ 65536)) }
     ensures { Ran (typing table) (length buf.old) result }
 {
     let mut have = 0;
-    let mut turns = u64::MAX;
-    while turns > 0 {
-        turns = turns - 1;
+    for _ in 0..u64::MAX {
         match pass(input, output, buf, have, replies) {
-            Next::Go(kept) => {
-                have = kept;
-            }
-            Next::Close(code) => {
-                return code;
-            }
-            Next::Break => {
-                return BROKEN;
-            }
+            Next::Go(kept) => have = kept,
+            Next::Close(code) => return Some(code),
+            Next::Break => return None,
         }
     }
-    BROKEN
+    None
 }
 
-// All of it, from an input to an output. Gives back 0 at the end of the input, or 255 where the input or the output failed.
-pub fn run(input: Stdin, output: Stdout) -> u8
+// All of it, from an input to an output. Gives back 0 at the end of the input, or nothing where the input or the output failed.
+pub fn run(input: Stdin, output: Stdout) -> Option<u8>
     ensures { Ran (typing table) 16384 result }
 {
     let mut buf = [0u8; 16384];

@@ -1,9 +1,9 @@
 // A turn of the program `lines`: the lines in the input buffer are answered, the replies are sent, and the unfinished line moves to the front.
-ghost use Rattle.std.specs.Prelude.{◌≡◌, ◌*◌, ◌≤◌, min, length, take};
+ghost use Rattle.std.specs.Prelude.{◌≡◌, ◌*◌, ◌≤◌, length, take};
 ghost use Rattle.replies.specs.Table.{table};
 ghost use Rattle.text.specs.Text.{closed};
-ghost use Rattle.text.specs.Reply.{shown, reply_to};
-ghost use Rattle.text.specs.Typing.{KEPT, turn_on};
+ghost use Rattle.text.specs.Reply.{shown, sign_text, reply_to};
+ghost use Rattle.text.specs.Typing.{turn_on};
 ghost use Rattle.console.specs.Post.{Wrote, Replied, Turned, last_reply};
 
 use crate::port::send;
@@ -30,6 +30,17 @@ pub(crate) struct Done {
     pub(crate) written: usize,
 }
 
+// What stands behind the value of an answer: its sign, where there is one, and a newline.
+fn sign(r: Reply) -> &'static [u8]
+    ensures { result.now ≡ closed (sign_text r) }
+{
+    match (r.more, r.extra) {
+        (0, _) => b"\n",
+        (_, 1) => b" +\n",
+        _ => b" -\n",
+    }
+}
+
 // Writes an answer as text and a newline from `at` on, and gives the place behind them. `at` is in a buffer of 65,536 bytes at most, behind a good
 // line, of 25 at most.
 fn put_answer(out: &mut [u8], at: usize, r: Reply) -> usize
@@ -40,16 +51,9 @@ fn put_answer(out: &mut [u8], at: usize, r: Reply) -> usize
     let digits = 2 * r.width;
     hexadecimal::put(out, at + 1, digits, r.bits);
     let place = at + 1 + digits;
-    if r.more == 0 {
-        put_all(out, place, b"\n");
-        return place + 1;
-    }
-    if r.extra == 1 {
-        put_all(out, place, b" +\n");
-        return place + 3;
-    }
-    put_all(out, place, b" -\n");
-    place + 3
+    let tail = sign(r);
+    put_all(out, place, tail);
+    place + tail.len()
 }
 
 // Writes the reply to a line and a newline from `at` on, and gives the place behind them.
@@ -74,15 +78,13 @@ fn reply_lines(text: &[u8], out: &mut [u8]) -> Done
     requires { (4 * length text.now ≤ length out.old) × (length out.old ≤ 65536) }
     ensures { Replied text.now result out.old out.new }
 {
-    let mut i = 0;
     let mut read = 0;
     let mut written = 0;
-    while i < text.len() {
+    for i in 0..text.len() {
         if text[i] == b'\n' {
             written = put_reply(out, written, &text[read..i]);
             read = i + 1;
         }
-        i = i + 1;
     }
     Done { read, written }
 }
@@ -92,17 +94,10 @@ fn put_last(out: &mut [u8], at: usize, line: &[u8]) -> usize
     requires { at ≤ 65536 }
     ensures { Wrote (last_reply line.now) at result out.old out.new }
 {
-    if line.len() == 0 {
+    if line.is_empty() {
         return at;
     }
     put_reply(out, at, line)
-}
-
-// How many of so many bytes of an unfinished line are kept.
-fn keeps(length: usize) -> usize
-    ensures { result ≡ min KEPT length }
-{
-    if length < MOST { length } else { MOST }
 }
 
 // Answers the lines in the first `have` bytes of `buf`, the unfinished one only where the input has ended, and sends the replies.
@@ -125,7 +120,7 @@ pub(crate) fn answer(
     }
     let written = t.written;
     let sent = send(output, &buf[..have], false, &replies[..written]);
-    let kept = keeps(have - read);
+    let kept = MOST.min(have - read);
     to_front(buf, read, kept);
     Round { kept, sent }
 }

@@ -1,3 +1,2 @@
--- Laws of the decisions (DecideLaws), and what the tests of the code say (TestLaws).
+-- Laws of the decisions.
 pub mod DecideLaws
-pub mod TestLaws

@@ -2,14 +2,18 @@
 --     cuts_do_not_show    However the input is cut into pieces, where no read and no write fails, the bytes that are sent are the answers of
 --                         one batch over the whole input with room for all, then 255 and its code.
 --     broken_is_front     Where one fails, the bytes that were sent are a front of those answers, and nothing closes them.
---     ends                The program gives back 0, 1, 2 or 255.
+--     ends                The program gives back 0, 1, 2 or nothing.
 use mathlib.Core.Path.{◌≡◌, refl, sym, ap, ◌∙◌}
 use mathlib.Core.List.{List, [], ◌∷◌, ◌++◌, append_assoc, append-nil}
-use mathlib.Core.Logic.{◌⊎◌, inl, inr, ⊎_elim}
+use mathlib.Core.Logic.{⊎_elim}
 use Prim.Native.Nat.{ℕ, ◌+◌, ◌-◌, ◌*◌, ◌≤◌}
 use native.Mathlib.Omega.{arith}
 use lib.ListN.{length, length-append, length-drop}
+use Rattle.std.specs.Prelude.{Option, Some, None, IfSome}
 use Rattle.replies.specs.Table.{table}
+use Rattle.records.specs.Codes.{number_s}
+use Rattle.records.specs.declared.Code.{Code}
+use Rattle.records.specs.declared.Code.TheVariants.{Done, Unknown, Cut, Full}
 use Rattle.records.specs.Run.{Out, ahead, run}
 use Rattle.stream.proofs.BatchLaws.{table_light, enough_room, batch_same, batches_are_whole}
 use Rattle.records.specs.Pieces.{whole}
@@ -18,24 +22,26 @@ use Rattle.records.proofs.RoomLaws.{run_easy}
 use Rattle.records.proofs.RunLaws.{run_within}
 use Rattle.records.proofs.SplitLaws.{run_more}
 use Rattle.records.proofs.StopLaws.{stays_unknown}
-use Rattle.decide.specs.Decide.{closing_s}
-use Rattle.decide.proofs.DecideLaws.{closing_is}
-use Rattle.session.specs.Session.{Heard, brought, piece, Event, Said, session, Fits, delivered, Some}
+use Rattle.session.specs.Session.{Heard, brought, piece, Event, Said, session, Fits, delivered, NoneEmpty}
 use Rattle.session.specs.Post.{Served}
 use Rattle.session.proofs.SayLaws.{one_or, input, Front, end_came, stop_came, more_came, front_of, ended}
 use Rattle.serve.specs.Session.{there, done, left, answering, closed}
 
--- what a batch adds to what the later turns say, where it closes and where it goes on
-closes : (o : Out) → o.code ≤ 2 → record { bytes = o.bytes ++ closing_s o.code; code = o.code } ≡ closed o
-closes o h = ap (λ (x : List ℕ). record { bytes = o.bytes ++ x; code = o.code }) (closing_is o.code (λ e. omega arith))
+-- the code of this number
+is_unknown : (c : Code) → number_s c ≡ 1 → c ≡ Unknown
+is_unknown Done e = absurd (omega (arith, e))
+is_unknown Unknown e = refl
+is_unknown Cut e = absurd (omega (arith, e))
+is_unknown Full e = absurd (omega (arith, e))
 
-goes_on : (o rest : Out) → record { bytes = o.bytes ++ (closed rest).bytes; code = rest.code } ≡ closed (ahead o rest)
+-- what a batch adds to what the later turns say, where it goes on
+goes_on : (o rest : Out) → record { bytes = o.bytes ++ (closed rest).bytes; code = Some (number_s rest.code) } ≡ closed (ahead o rest)
 goes_on o rest =
-    ap (λ (x : List ℕ). record { bytes = x; code = rest.code }) (sym (append_assoc o.bytes rest.bytes (255 ∷ (rest.code ∷ []))))
+    ap (λ (x : List ℕ). record { bytes = x; code = Some (number_s rest.code) }) (sym (append_assoc o.bytes rest.bytes (255 ∷ (number_s rest.code ∷ []))))
 
 -- in buffers of such sizes
 module _ (size room : ℕ) (h : 2 * size ≤ room) where
-  small : (rest : List ℕ) (g : Heard) → length rest + length (piece g) ≤ size → (done room rest g).code ≤ 2
+  small : (rest : List ℕ) (g : Heard) → length rest + length (piece g) ≤ size → number_s (done room rest g).code ≤ 2
   small rest g l = enough_room (there rest g) room (omega (arith, length-append rest (piece g)))
 
   -- the events of a cut input are batches with room enough
@@ -44,33 +50,33 @@ module _ (size room : ℕ) (h : 2 * size ≤ room) where
   roomy rest (p ∷ ps) f = (omega (arith, f.0, length-append rest p), roomy (left room rest (brought p)) ps f.1)
 
   -- an unknown kind: the later pieces add nothing
-  stays : (rest p : List ℕ) (ps : List (List ℕ)) → Roomy table room rest (p ∷ ps) → (run table (rest ++ p) room).code ≡ 1 →
+  stays : (rest p : List ℕ) (ps : List (List ℕ)) → Roomy table room rest (p ∷ ps) → number_s (run table (rest ++ p) room).code ≡ 1 →
       pieces table room rest (p ∷ ps) ≡ run table (rest ++ p) room
   stays rest p ps r u =
       let large = room + 2 * length (rest ++ (p ++ whole ps)) in
       batches_are_whole room rest (p ∷ ps) large r (omega arith)
       ∙ ap (λ (x : List ℕ). run table x large) (sym (append_assoc rest p (whole ps)))
-      ∙ stays_unknown table (rest ++ p) (whole ps) room large (omega arith) u
+      ∙ stays_unknown table (rest ++ p) (whole ps) room large (omega arith) (is_unknown _ u)
 
-  by_pieces : (rest : List ℕ) (ps : List (List ℕ)) → Some ps → Fits (answering room) size rest (delivered ps) →
+  by_pieces : (rest : List ℕ) (ps : List (List ℕ)) → NoneEmpty ps → Fits (answering room) size rest (delivered ps) →
       session (answering room) rest (delivered ps) ≡ closed (pieces table room rest ps)
   by_pieces rest [] s f =
-      end_came (answering room) rest [] ∙ closes (done room rest (brought [])) (small rest (brought []) f.0)
+      end_came (answering room) rest []
       ∙ ap (λ (x : List ℕ). closed (run table x room)) (append-nil rest)
   by_pieces rest (p ∷ ps) s f =
       let o = done room rest (brought p) in
       let t = left room rest (brought p) in
       ⊎_elim
       (λ u.
-      stop_came (answering room) rest p (delivered ps) u ∙ closes o (small rest (brought p) f.0)
+      stop_came (answering room) rest p (delivered ps) u
       ∙ ap closed (sym (stays rest p ps (roomy rest (p ∷ ps) f) u)))
       (λ u.
       more_came (answering room) rest p (delivered ps) u s.0
       ∙ ap (λ (x : Said). record { bytes = o.bytes ++ x.bytes; code = x.code }) (by_pieces t ps s.1 f.1)
       ∙ goes_on o (pieces table room t ps))
-      (one_or o.code)
+      (one_or (number_s o.code))
 
-  pub cuts_do_not_show : (ps : List (List ℕ)) (large : ℕ) → Some ps → Fits (answering room) size [] (delivered ps) → 2 * length (whole ps) ≤ large →
+  pub cuts_do_not_show : (ps : List (List ℕ)) (large : ℕ) → NoneEmpty ps → Fits (answering room) size [] (delivered ps) → 2 * length (whole ps) ≤ large →
       session (answering room) [] (delivered ps) ≡ closed (run table (whole ps) large)
   cuts_do_not_show ps large s f l =
       let enough = room + 2 * length (whole ps) in
@@ -99,14 +105,12 @@ module _ (size room : ℕ) (h : 2 * size ≤ room) where
       let d = length-drop o.tally.read s in
       let a = length-append s follows in
       let b = length-append t follows in
-      let c = small rest e.heard f.0 in
       front_of (answering room) rest e es _ (run table (t ++ follows) (large - o.tally.written)).bytes
-      (λ z. omega arith)
       (ap (λ (x : List ℕ). (run table x large).bytes) q ∙ ap (λ (x : Out). x.bytes) (run_more table s follows room large (omega arith)))
       (fronts t es later (large - o.tally.written) f.1 (omega arith))
 
   pub broken_is_front : (es : List Event) (later : List ℕ) (large : ℕ) → Fits (answering room) size [] es →
-      (session (answering room) [] es).code ≡ 255 →
+      (session (answering room) [] es).code ≡ None →
       2 * length (input es ++ later) ≤ large → (tail : List ℕ) × ((run table (input es ++ later) large).bytes ≡ (session (answering room) [] es).bytes ++ tail)
   broken_is_front es later large f e l =
       let s = input es ++ later in
@@ -114,6 +118,6 @@ module _ (size room : ℕ) (h : 2 * size ≤ room) where
       let t = fronts [] es later enough f (omega arith) e in
       (t.0, ap (λ (x : Out). x.bytes) (batch_same s large enough l (omega arith)) ∙ t.1)
 
-pub ends : (r : ℕ) → Served (answering 65536) 32768 r → (r ≤ 2) ⊎ (r ≡ 255)
+pub ends : (r : Option ℕ) → Served (answering 65536) 32768 r → IfSome r (λ c. c ≤ 2)
 ends r s =
-    ended (answering 65536) 32768 (λ c. (c ≤ 2) ⊎ (c ≡ 255)) (inr refl) (λ rest e l. inl (small 32768 65536 (omega arith) rest e.heard l)) r s
+    ended (answering 65536) 32768 (λ c. IfSome c (λ k. k ≤ 2)) tt (λ rest e l. small 32768 65536 (omega arith) rest e.heard l) r s

@@ -1,6 +1,7 @@
 -- What the program `answers` does in a turn, which makes it a program in turns (session/specs/Session).
-use Rattle.std.specs.Prelude.{List, [], ◌∷◌, ◌++◌, ℕ, drop}
+use Rattle.std.specs.Prelude.{List, [], ◌∷◌, ◌++◌, ℕ, drop, Some}
 use Rattle.replies.specs.Table.{table}
+use Rattle.records.specs.Codes.{number_s}
 use Rattle.records.specs.Run.{Out, run}
 use Rattle.decide.specs.Decide.{closing_s}
 use Rattle.session.specs.Session.{Heard, piece, Program, Said}
@@ -19,10 +20,10 @@ left room rest h = drop (done room rest h).tally.read (there rest h)
 abbrev pub answering : ℕ → Program
 answering room =
     record {
-      turn = λ rest h. record { bytes = (done room rest h).bytes; code = (done room rest h).code; left = left room rest h };
+      turn = λ rest h. record { bytes = (done room rest h).bytes; code = number_s (done room rest h).code; left = left room rest h };
       closing = closing_s;
     }
 
 -- a batch, and the closing bytes
 abbrev pub closed : Out → Said
-closed o = record { bytes = o.bytes ++ (255 ∷ (o.code ∷ [])); code = o.code }
+closed o = record { bytes = o.bytes ++ (255 ∷ (number_s o.code ∷ [])); code = Some (number_s o.code) }

@@ -3,6 +3,7 @@ ghost use Rattle.std.specs.Prelude.{◌≤◌, length, take};
 ghost use Rattle.serve.specs.Turn.{Turned};
 
 use crate::port::send;
+use records::Code;
 use session::to_front;
 use std::io::Stdout;
 use stream::batch;
@@ -10,7 +11,7 @@ use stream::batch;
 // Why the batch of a turn stopped, how many unread bytes are kept, and whether the answers were taken.
 #[derive(Drop)]
 pub(crate) struct Round {
-    pub(crate) code: u8,
+    pub(crate) code: Code,
     pub(crate) kept: usize,
     pub(crate) sent: bool,
 }

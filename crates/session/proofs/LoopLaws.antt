@@ -1,33 +1,32 @@
 -- What a loop over the turns keeps: the program over the events so far, and any later ones, is the program over the later ones from the
 -- bytes that were carried over. Assumes nothing.
 use mathlib.Core.Path.{◌≡◌, refl, sym, ap, ◌∙◌, subst}
-use mathlib.Core.Bool.{Bool}
 use mathlib.Core.List.{List, [], ◌∷◌, ◌++◌, append_assoc}
 use mathlib.Core.Logic.{inl, inr}
-use Prim.Native.Nat.{ℕ, ◌+◌, ◌-◌, ◌^◌, ◌<◌}
+use Prim.Native.Nat.{ℕ, ◌+◌, ◌-◌, ◌^◌}
 use native.Mathlib.Omega.{arith}
 use lib.ListN.{length, take, length-append}
-use Rattle.decide.specs.Decide.{end_s}
+use Rattle.std.specs.Prelude.{Some, None}
 use Rattle.decide.specs.declared.Next.{Next}
 use Rattle.decide.specs.declared.Next.TheVariants.{Go, Close, Break}
 use Rattle.decide.proofs.DecideLaws.{when_go}
 use Rattle.session.specs.Session.{Event, returned, Turn, Program, turn_of, says, session, StopsOr, Stops, Fits}
-use Rattle.session.specs.Post.{Passed, Ran, Served}
+use Rattle.session.specs.Post.{Passed, Ran}
 
--- Where the loop stands, with so many turns to go and the carried bytes in rest.
+-- Where the loop stands, after so many turns and with the carried bytes in rest.
 pub record Going (P : Program) (size turns : ℕ) (rest : List ℕ) : Type 0 where
   pub events : List Event
-  pub used : length events + turns ≡ 2 ^ 64 - 1
+  pub used : length events ≡ turns
   pub stops : (later : List Event) → Stops P rest later → Stops P [] (events ++ later)
   pub fits : (later : List Event) → Fits P size rest later → Fits P size [] (events ++ later)
   pub code : (later : List Event) → (session P [] (events ++ later)).code ≡ (session P rest later).code
 
 module _ (P : Program) (size : ℕ) where
-  pub going_none : Going P size (2 ^ 64 - 1) []
+  pub going_none : Going P size 0 []
   going_none = record { events = []; used = refl; stops = λ later h. h; fits = λ later h. h; code = λ later. refl }
 
   -- the turns are used up
-  pub going_out : (turns : ℕ) (rest : List ℕ) → Going P size turns rest → turns ≡ 0 → Ran P size 255
+  pub going_out : (turns : ℕ) (rest : List ℕ) → Going P size turns rest → 2 ^ 64 - 1 ≡ turns → Ran P size None
   unfolding session
   going_out turns rest g z =
       record {
@@ -63,28 +62,23 @@ module _ (P : Program) (size : ℕ) where
     unfolding Stops
     stop y e later h = g.stops (p.event ∷ later) (subst (λ (z : Next). StopsOr z (Stops P this.left later)) (sym (sym p.next ∙ e)) h)
 
-    pub going_close : (c : ℕ) → x ≡ Close c → Ran P size c
+    pub going_close : (c : ℕ) → x ≡ Close c → Ran P size (Some c)
     going_close c e =
         record { events = g.events ++ (p.event ∷ []); fits = inside [] tt; full = inl (stop (Close c) e [] tt); code = sym (turn (Close c) e []) }
 
-    pub going_break : x ≡ Break → Ran P size 255
+    pub going_break : x ≡ Break → Ran P size None
     going_break e =
         record { events = g.events ++ (p.event ∷ []); fits = inside [] tt; full = inl (stop Break e [] tt); code = sym (turn Break e []) }
 
-    pub going_on : (kept : ℕ) → x ≡ Go kept → 0 < turns → Going P size (turns - 1) (take kept b)
-    going_on kept e more =
+    pub going_on : (kept : ℕ) → x ≡ Go kept → Going P size (turns + 1) (take kept b)
+    going_on kept e =
         let carried : take kept b ≡ this.left = ap (λ (n : ℕ). take n b) (kept_is rest x b p kept e).0 ∙ p.carried in
         let so : (later : List Event) → (g.events ++ (p.event ∷ [])) ++ later ≡ g.events ++ (p.event ∷ later) =
         append_assoc g.events (p.event ∷ []) in
-        subst (Going P size (turns - 1)) (sym carried) (record {
+        subst (Going P size (turns + 1)) (sym carried) (record {
           events = g.events ++ (p.event ∷ []);
-          used = omega (arith, length-append g.events (p.event ∷ []), g.used, more);
+          used = omega (arith, length-append g.events (p.event ∷ []), g.used);
           stops = λ later f. subst (Stops P []) (sym (so later)) (stop (Go kept) e later f);
           fits = λ later f. subst (Fits P size []) (sym (so later)) (inside later f);
           code = λ later. ap (λ (y : List Event). (session P [] y).code) (so later) ∙ turn (Go kept) e later;
         })
-
-  -- the whole program: its turns, and whether the closing bytes were taken
-  pub served : (code r : ℕ) (sent : Bool) → Ran P size code → r ≡ end_s code sent → Served P size r
-  served code r sent u e =
-      record { events = u.events; fits = u.fits; full = u.full; closed = sent; result = e ∙ ap (λ (k : ℕ). end_s k sent) u.code }

@@ -1,6 +1,6 @@
 -- What a loop of turns promises: there are events, of which no contract can say more, and the code is what the definition gives for them. Of the
 -- bytes that are sent only that is promised which a program's own calls of write ask for.
-use Rattle.std.specs.Prelude.{◌≡◌, Bool, List, [], ◌⊎◌, ℕ, ◌+◌, ◌-◌, ◌^◌, ◌≤◌, length, take}
+use Rattle.std.specs.Prelude.{◌≡◌, Bool, List, [], ◌⊎◌, ℕ, ◌+◌, ◌-◌, ◌^◌, ◌≤◌, length, take, Option}
 use Rattle.decide.specs.Decide.{end_s}
 use Rattle.decide.specs.declared.Next.{Next}
 use Rattle.session.specs.Session.{Event, piece, Program, turn_of, next_of, session, Stops, Fits}
@@ -17,14 +17,14 @@ abbrev pub Full : Program → List Event → Type 0
 Full P es = Stops P [] es ⊎ (length es ≡ 2 ^ 64 - 1)
 
 -- all turns
-pub record Ran (P : Program) (size r : ℕ) : Type 0 where
+pub record Ran (P : Program) (size : ℕ) (r : Option ℕ) : Type 0 where
   pub events : List Event
   pub fits : Fits P size [] events
   pub full : Full P events
   pub code : r ≡ (session P [] events).code
 
 -- the program; closed: the closing bytes were taken
-pub record Served (P : Program) (size r : ℕ) : Type 0 where
+pub record Served (P : Program) (size : ℕ) (r : Option ℕ) : Type 0 where
   pub events : List Event
   pub fits : Fits P size [] events
   pub full : Full P events

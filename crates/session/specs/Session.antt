@@ -1,5 +1,5 @@
 -- A program that reads, writes and goes on, as a definition over its decisions and all that the outside does. Over any program of that form.
-use Rattle.std.specs.Prelude.{Bool, true, false, List, [], ◌∷◌, ◌++◌, ◌⊎◌, ℕ, ◌+◌, ◌≤◌, ◌<◌, ℤ, pos, negsuc, length}
+use Rattle.std.specs.Prelude.{Bool, true, false, List, [], ◌∷◌, ◌++◌, ◌⊎◌, ℕ, ◌+◌, ◌≤◌, ◌<◌, length, Option, None, Some}
 use Rattle.decide.specs.Decide.{after_s}
 use Rattle.decide.specs.declared.Next.{Next}
 use Rattle.decide.specs.declared.Next.TheVariants.{Go, Close, Break}
@@ -9,10 +9,10 @@ pub data Heard : Type 0 where
   brought : List ℕ → Heard
   failed : Heard
 
--- what the read returned: how many bytes, or -1
-abbrev pub returned : Heard → ℤ
-returned (brought p) = pos (length p)
-returned failed = negsuc 0
+-- what the read returned: how many bytes, or none of that where it failed
+abbrev pub returned : Heard → Option ℕ
+returned (brought p) = Some (length p)
+returned failed = None
 
 abbrev pub piece : Heard → List ℕ
 piece (brought p) = p
@@ -40,20 +40,20 @@ turn_of P rest e = P.turn rest e.heard
 abbrev pub next_of : Program → List ℕ → Event → Next
 next_of P rest e = after_s (returned e.heard) (turn_of P rest e).code (length (turn_of P rest e).left) e.sent
 
--- All bytes that are handed to write, in their order, and the code of the end, 255 for none.
+-- All bytes that are handed to write, in their order, and the code of the end, if there is one.
 pub record Said : Type 0 where
   pub bytes : List ℕ
-  pub code : ℕ
+  pub code : Option ℕ
 
 -- what a turn says that sent the bytes x, and then what the later turns say
 abbrev pub says : Program → Next → List ℕ → Said → Said
 says P (Go kept) x later = record { bytes = x ++ later.bytes; code = later.code }
-says P (Close code) x later = record { bytes = x ++ P.closing code; code = code }
-says P Break x later = record { bytes = x; code = 255 }
+says P (Close code) x later = record { bytes = x ++ P.closing code; code = Some code }
+says P Break x later = record { bytes = x; code = None }
 
 -- The program from the bytes carried over on. It ends with no code where the turns are used up.
 unfoldable pub session : Program → List ℕ → List Event → Said
-session P rest [] = record { bytes = []; code = 255 }
+session P rest [] = record { bytes = []; code = None }
 session P rest (e ∷ es) = says P (next_of P rest e) (turn_of P rest e).bytes (session P (turn_of P rest e).left es)
 
 -- it stops here, or later
@@ -82,9 +82,9 @@ arriving [] = []
 arriving (p ∷ ps) = came p ∷ arriving ps
 
 -- no piece is empty: a read of no byte is the end
-abbrev pub Some : List (List ℕ) → Type 0
-Some [] = Unit
-Some (p ∷ ps) = (0 < length p) × Some ps
+abbrev pub NoneEmpty : List (List ℕ) → Type 0
+NoneEmpty [] = Unit
+NoneEmpty (p ∷ ps) = (0 < length p) × NoneEmpty ps
 
 -- a read or a write fails in one of these events
 abbrev pub FailsIn : Heard → Bool → Type 0

@@ -8,19 +8,11 @@ ghost use Rattle.std.specs.Prelude.{◌≡◌, take, drop};
 ghost use Rattle.std.proofs.lemmas.List.Edits.{sets};
 
 // Moves the `count` bytes from `from` on to the front, as many of them as there are.
+#[tactic(auto, using(crate::proofs::FrontLaws::moved))]
 pub fn to_front(buf: &mut [u8], from: usize, count: usize)
     ensures { buf.new ≡ sets buf.old 0 (take count (drop from buf.old)) }
 {
-    if buf.len() <= from {
-        return;
-    }
-    let most = buf.len() - from;
-    let mut i = 0;
-    while i < count {
-        if most <= i {
-            return;
-        }
-        buf[i] = buf[from + i];
-        i = i + 1;
-    }
+    let start = from.min(buf.len());
+    let end = start + count.min(buf.len() - start);
+    buf.copy_within(start..end, 0);
 }

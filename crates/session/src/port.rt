@@ -3,30 +3,15 @@
 ghost use Rattle.std.specs.Prelude.{◌≡◌, length};
 ghost use Rattle.std.specs.Bool.{OnTrue};
 ghost use Rattle.std.specs.Io.KnownBytes.{Appends};
-ghost use Rattle.session.specs.Moved.{Moved, IsPrefixLen, clamp_len};
+ghost use Rattle.session.specs.Moved.{Moved, IsPrefixLen};
 
 use std::io::{Read, Write};
 
-// Reads once: how many bytes it brought, or -1 where it failed.
-pub fn read<R: Read>(input: &mut R, room: &mut [u8]) -> isize
+// Reads once: how many bytes it brought, or none of that where it failed.
+pub fn read<R: Read>(input: &mut R, room: &mut [u8]) -> Option<usize>
     ensures { Moved (length room.new) result }
 {
-    match input.read(room) {
-        Ok(n) => n as isize,
-        Err(_) => -1,
-    }
-}
-
-// What a read answered, as a number of bytes of buf: 0 where it failed.
-pub fn count(got: isize, buf: &[u8]) -> usize
-    ensures in_bounds { IsPrefixLen result buf.now }
-    ensures value { result ≡ clamp_len got (length buf.now) }
-{
-    if got <= 0 {
-        return 0;
-    }
-    let n = got as usize;
-    if n < buf.len() { n } else { buf.len() }
+    input.read(room).ok()
 }
 
 // Writes all bytes, and says whether they were taken.
@@ -36,18 +21,17 @@ pub fn write_all<W: Write>(output: &mut W, bytes: &[u8]) -> bool
     output.write_all(bytes).is_ok()
 }
 
-// Reads until the room is full, the input ends or a read fails, and says how many bytes there are.
+// Reads until the room is full, the input ends or a read fails, and says how many bytes there are. How many reads that takes is not known
+// before, so that no `for` counts them.
 pub fn read_full<R: Read>(input: &mut R, room: &mut [u8]) -> usize
     ensures { IsPrefixLen result room.new }
 {
     let mut done = 0;
     while done < room.len() {
-        let got = read(input, &mut room[done..]);
-        let n = count(got, &room[done..]);
-        if n == 0 {
-            return done;
+        match read(input, &mut room[done..]) {
+            None | Some(0) => return done,
+            Some(n) => done += n,
         }
-        done = done + n;
     }
     done
 }

@@ -3,9 +3,9 @@
 --                         all lines of the whole text, and the code is 0.
 --     at_once             After each piece, those that were sent are the replies to the lines that are finished, and no others.
 --     broken_is_front     Where something fails, those that were handed to write are a front of the replies to what was read.
---     gives_back          The program gives back 0, or 255.
+--     gives_back          The program gives back 0, or nothing.
 --     zero_is_all         Its code is 0 only where the input ended and nothing failed before.
---     breaks_by_failure   It gives back 255 only where something failed, or after 2 ^ 64 - 1 turns.
+--     breaks_by_failure   It gives back nothing only where something failed, or after 2 ^ 64 - 1 turns.
 --     carries_little      It carries over 26 bytes at most.
 use mathlib.Core.Path.{◌≡◌, refl, sym, ap, ◌∙◌, subst}
 use mathlib.Core.Bool.{Bool, true, false}
@@ -15,14 +15,14 @@ use Prim.Native.Nat.{ℕ, ◌≤◌, ◌<◌}
 use native.Mathlib.Omega.{arith}
 use borrow.Author.Tests.{ltb-true, ltb-false, ne_eqb}
 use lib.Dec.{ltb}
-use lib.IntN.{pos}
+use Rattle.std.specs.Prelude.{Option, Some, None}
 use lib.ListN.{length, take, length-append, length-take}
 use lib.Seq.{take_all, take-append-le, length-take-le}
 use Rattle.records.specs.Row.{Row}
 use Rattle.records.specs.Pieces.{whole}
 use Rattle.decide.specs.Decide.{at_end_s}
-use Rattle.session.specs.Session.{Heard, brought, failed, returned, piece, Event, Turn, turn_of, Said, session, came, delivered, arriving, Some}
-use Rattle.session.proofs.SayLaws.{Front, end_came, more_came, ends_whole, front_end, front_of, coded}
+use Rattle.session.specs.Session.{Heard, brought, failed, returned, piece, Event, Turn, turn_of, Said, session, came, delivered, arriving, NoneEmpty}
+use Rattle.session.proofs.SayLaws.{some_none, Front, end_came, more_came, ends_whole, front_end, front_of, coded}
 use Rattle.session.proofs.SayLaws as say
 use Rattle.text.specs.Text.{lines, text_of, Cut, cut}
 use Rattle.text.specs.Reply.{reply_to, replies_to}
@@ -111,7 +111,7 @@ module _ (T : List Row) where
       ∙ ap (λ (x : List ℕ). record { bytes = said (cut (u ++ p)); code = 0; left = x }) (same_left u p f)
 
   -- a read that brings bytes is not the end
-  more_comes : (p : List ℕ) → 0 < length p → at_end_s (pos (length p)) ≡ false
+  more_comes : (p : List ℕ) → 0 < length p → at_end_s (Some (length p)) ≡ false
   more_comes p h = ne_eqb (length p) 0 (λ e. omega arith)
 
   -- a turn that brings bytes, and where the line goes on from
@@ -131,23 +131,23 @@ module _ (T : List Row) where
       ∙ ap (ahead (λ x. session (typing T) x es)) e
 
   -- all pieces to the end, whatever events are behind it
-  by_pieces : (u : List ℕ) (ps : List (List ℕ)) (more : List Event) → Free u → Some ps →
-      session (typing T) (take KEPT u) (delivered ps ++ more) ≡ record { bytes = replies_to T (u ++ whole ps); code = 0 }
+  by_pieces : (u : List ℕ) (ps : List (List ℕ)) (more : List Event) → Free u → NoneEmpty ps →
+      session (typing T) (take KEPT u) (delivered ps ++ more) ≡ record { bytes = replies_to T (u ++ whole ps); code = Some 0 }
   by_pieces u [] more f s =
       end_came (typing T) (take KEPT u) more
-      ∙ ap (λ (x : List ℕ). record { bytes = x; code = 0 }) (append-nil (replies_to T (take KEPT u ++ [])) ∙ same_all u [] f)
+      ∙ ap (λ (x : List ℕ). record { bytes = x; code = Some 0 }) (append-nil (replies_to T (take KEPT u ++ [])) ∙ same_all u [] f)
   by_pieces u (p ∷ ps) more f s =
       let v = (cut (u ++ p)).rest in
       goes_on u p (delivered ps ++ more) f s.0
       ∙ ap (λ (x : Said). record { bytes = said (cut (u ++ p)) ++ x.bytes; code = x.code }) (by_pieces v ps more (rest_free (u ++ p)) s.1)
-      ∙ ap (λ (x : List ℕ). record { bytes = x; code = 0 }) (sym (replies_append (u ++ p) (whole ps)) ∙ ap (replies_to T) (append_assoc u p (whole ps)))
+      ∙ ap (λ (x : List ℕ). record { bytes = x; code = Some 0 }) (sym (replies_append (u ++ p) (whole ps)) ∙ ap (replies_to T) (append_assoc u p (whole ps)))
 
   pub cuts_do_not_show : CutsDoNotShow T
   cuts_do_not_show ps s = ap (session (typing T) []) (sym (append-nil (delivered ps))) ∙ by_pieces [] ps [] tt s
 
   -- ---- before the input ends
 
-  so_far : (u : List ℕ) (ps : List (List ℕ)) → Free u → Some ps → (session (typing T) (take KEPT u) (arriving ps)).bytes ≡ said (cut (u ++ whole ps))
+  so_far : (u : List ℕ) (ps : List (List ℕ)) → Free u → NoneEmpty ps → (session (typing T) (take KEPT u) (arriving ps)).bytes ≡ said (cut (u ++ whole ps))
   unfolding session text_of
   so_far u [] f s = sym (ap said (ap cut (append-nil u) ∙ cut_free u f))
   so_far u (p ∷ ps) f s =
@@ -173,7 +173,6 @@ module _ (T : List Row) where
       ap (λ (b : Bool). turn_on T b (take KEPT u ++ piece h)) ee ∙ ap (λ (x : List ℕ). turn_on T false (take KEPT u ++ x)) ep ∙ turn_over u p f in
       let v = (cut (u ++ p)).rest in
       front_of (typing T) (take KEPT u) e es _ (replies_to T (v ++ typed es))
-      (λ z. let y : 0 ≡ 255 = sym (ap (λ (x : Turn). x.code) t) ∙ z in omega arith)
       (ap (replies_to T) (sym (append_assoc u p (typed es))) ∙ replies_append (u ++ p) (typed es) ∙ ap (λ (x : Turn). x.bytes ++ replies_to T (v ++ typed es)) (sym t))
       (subst (λ (x : List ℕ). Front (replies_to T (v ++ typed es)) (session (typing T) x es)) (ap (λ (x : Turn). x.left) (sym t)) (later v (rest_free (u ++ p))))
 
@@ -185,7 +184,7 @@ module _ (T : List Row) where
       by-heard : ((v : List ℕ) → Free v → Front (replies_to T (v ++ typed es)) (session (typing T) (take KEPT v) es)) → (h : Heard) →
           Front (replies_to T (u ++ typed_of h (typed es))) (session (typing T) (take KEPT u) (record { heard = h; sent = e.sent } ∷ es))
       by-heard later failed = front_more u [] failed e.sent es f refl refl later
-      by-heard later (brought []) = front_end (typing T) (take KEPT u) e.sent es _ (λ z. omega arith) (sym (same_all u [] f))
+      by-heard later (brought []) = front_end (typing T) (take KEPT u) e.sent es _ (sym (same_all u [] f))
       by-heard later (brought (c ∷ p)) = front_more u (c ∷ p) (brought (c ∷ p)) e.sent es f refl (more_comes (c ∷ p) (omega arith)) later
 
   pub broken_is_front : BrokenIsFront T
@@ -201,17 +200,17 @@ module _ (T : List Row) where
 
   pub gives_back : GivesBack T
   gives_back size r n =
-      subst (λ (c : ℕ). (c ≡ 0) ⊎ (c ≡ 255)) (sym n.code)
-      (coded (typing T) size (λ c. (c ≡ 0) ⊎ (c ≡ 255)) (inr refl) (λ rest e h. inl (turn_zero rest e.heard)) [] n.events n.fits)
+      subst (λ (c : Option ℕ). (c ≡ Some 0) ⊎ (c ≡ None)) (sym n.code)
+      (coded (typing T) size (λ c. (c ≡ Some 0) ⊎ (c ≡ None)) (inr refl) (λ rest e h. inl (ap Some (turn_zero rest e.heard))) [] n.events n.fits)
 
   pub zero_is_all : ZeroIsAll T
   zero_is_all es z =
-      let w = ends_whole (typing T) (λ rest h y. omega (arith, turn_zero rest h, y)) [] es (λ y. omega (arith, z, y)) in
+      let w = ends_whole (typing T) (λ rest h y. omega (arith, turn_zero rest h, y)) [] es (λ y. some_none 0 (sym z ∙ y)) in
       let q = w.1.1 in
       (w.0, (w.1.0, (q.0, (q.1, ap (λ (x : List Event). (session (typing T) [] x).bytes) q.1 ∙ ap (λ (x : Said). x.bytes) (by_pieces [] w.0 w.1.0 tt q.0)))))
 
   pub breaks_by_failure : BreaksByFailure T
-  breaks_by_failure = say.breaks_by_failure (typing T) (λ rest h y. omega (arith, turn_zero rest h, y))
+  breaks_by_failure = say.breaks_by_failure (typing T)
 
   -- what is carried over is at most 26 bytes
   left_small : (b : Bool) (s : List ℕ) → length (turn_on T b s).left ≤ KEPT

@@ -1,6 +1,6 @@
 -- What is promised of lines, of texts, of replies and of the program. proofs/Promised has a proof of each: what speaks of replies or of the program
 -- holds for every table T of kinds.
-use Rattle.std.specs.Prelude.{ℕ, ◌+◌, ◌-◌, ◌*◌, ◌^◌, ◌≤◌, ◌<◌, ◌≡◌, ◌⊎◌, List, [], ◌∷◌, ◌++◌, map, length, take, drop}
+use Rattle.std.specs.Prelude.{ℕ, ◌+◌, ◌-◌, ◌*◌, ◌^◌, ◌≤◌, ◌<◌, ◌≡◌, ◌⊎◌, List, [], ◌∷◌, ◌++◌, map, length, take, drop, Option, None, Some}
 use Rattle.digits.specs.Digits.{word}
 use Rattle.hexadecimal.specs.Hex.{hex, number_s}
 use Rattle.hexadecimal.specs.declared.Number.TheVariants.{Is}
@@ -12,7 +12,7 @@ use Rattle.records.specs.declared.Code.TheVariants.{Done, Unknown, Cut, Full}
 use Rattle.records.specs.Run.{Out, run}
 use Rattle.records.specs.Pieces.{whole}
 use Rattle.records.specs.declared.Reply.{Reply}
-use Rattle.session.specs.Session.{Heard, brought, failed, Event, session, delivered, arriving, Some, Failing}
+use Rattle.session.specs.Session.{Heard, brought, failed, Event, session, delivered, arriving, NoneEmpty, Failing}
 use Rattle.session.specs.Post.{Ran}
 use Rattle.text.specs.Quoted.{ascii}
 use Rattle.text.specs.Names.{Name, names}
@@ -185,11 +185,11 @@ ShowsSign =
 
 -- However the input is cut into pieces, where nothing fails, all that is said are the replies to the whole text, and the code is 0.
 abbrev pub CutsDoNotShow : List Row → Type 0
-CutsDoNotShow T = (ps : List (List ℕ)) → Some ps → session (typing T) [] (delivered ps) ≡ record { bytes = replies_to T (whole ps); code = 0 }
+CutsDoNotShow T = (ps : List (List ℕ)) → NoneEmpty ps → session (typing T) [] (delivered ps) ≡ record { bytes = replies_to T (whole ps); code = Some 0 }
 
 -- As long as nothing fails: after each piece, what is said are the replies to the lines that are finished, and no others.
 abbrev pub AtOnce : List Row → Type 0
-AtOnce T = (ps : List (List ℕ)) → Some ps → (session (typing T) [] (arriving ps)).bytes ≡ text_of (map (reply_to T) (cut (whole ps)).finished)
+AtOnce T = (ps : List (List ℕ)) → NoneEmpty ps → (session (typing T) [] (arriving ps)).bytes ≡ text_of (map (reply_to T) (cut (whole ps)).finished)
 
 -- all that the reads of these events bring, until one brings no byte; one that fails brings nothing
 abbrev pub typed_of : Heard → List ℕ → List ℕ
@@ -203,21 +203,21 @@ typed (e ∷ es) = typed_of e.heard (typed es)
 
 -- Where the program breaks off, what is said is a front of the replies to what the reads bring.
 abbrev pub BrokenIsFront : List Row → Type 0
-BrokenIsFront T = (es : List Event) → (session (typing T) [] es).code ≡ 255 → (tail : List ℕ) × (replies_to T (typed es) ≡ (session (typing T) [] es).bytes ++ tail)
+BrokenIsFront T = (es : List Event) → (session (typing T) [] es).code ≡ None → (tail : List ℕ) × (replies_to T (typed es) ≡ (session (typing T) [] es).bytes ++ tail)
 
--- What the program gives back is 0, or 255.
+-- What the program gives back is 0, or nothing.
 abbrev pub GivesBack : List Row → Type 0
-GivesBack T = (size r : ℕ) → Ran (typing T) size r → (r ≡ 0) ⊎ (r ≡ 255)
+GivesBack T = (size : ℕ) (r : Option ℕ) → Ran (typing T) size r → (r ≡ Some 0) ⊎ (r ≡ None)
 
 -- Its code is 0 only where the input came in pieces and ended, and nothing failed before; so all that is said are the replies to the whole text.
 abbrev pub ZeroIsAll : List Row → Type 0
 ZeroIsAll T =
-    (es : List Event) → (session (typing T) [] es).code ≡ 0 →
-    (ps : List (List ℕ)) × ((more : List Event) × (Some ps × ((es ≡ delivered ps ++ more) × ((session (typing T) [] es).bytes ≡ replies_to T (whole ps)))))
+    (es : List Event) → (session (typing T) [] es).code ≡ Some 0 →
+    (ps : List (List ℕ)) × ((more : List Event) × (NoneEmpty ps × ((es ≡ delivered ps ++ more) × ((session (typing T) [] es).bytes ≡ replies_to T (whole ps)))))
 
--- It gives back 255 only where a read or a write failed, or after 2 ^ 64 - 1 turns.
+-- It gives back nothing only where a read or a write failed, or after 2 ^ 64 - 1 turns.
 abbrev pub BreaksByFailure : List Row → Type 0
-BreaksByFailure T = (size : ℕ) (r : Ran (typing T) size 255) → Failing r.events ⊎ (length r.events ≡ 2 ^ 64 - 1)
+BreaksByFailure T = (size : ℕ) (r : Ran (typing T) size None) → Failing r.events ⊎ (length r.events ≡ 2 ^ 64 - 1)
 
 -- From turn to turn it carries over 26 bytes at most.
 abbrev pub CarriesLittle : List Row → Type 0

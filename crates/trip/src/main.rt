@@ -11,12 +11,27 @@ use text::{requests_of, text_of};
 
 const MOST: usize = 4096;
 
-// Text to requests for mode 0, requests to text for any other.
-fn turned(mode: u64, asked: &[u8], answers: &mut [u8]) -> Report {
-    if mode == 0 {
-        return requests_of(asked, answers);
+// Which way a question goes.
+#[derive(Clone, Copy)]
+enum Way {
+    ToRequests,
+    ToText,
+}
+
+// The way that the first byte of a question says, if it says one.
+fn way_of(first: u64) -> Option<Way> {
+    match first {
+        0 => Some(Way::ToRequests),
+        1 => Some(Way::ToText),
+        _ => None,
     }
-    text_of(asked, answers)
+}
+
+fn turned(way: Way, asked: &[u8], answers: &mut [u8]) -> Report {
+    match way {
+        Way::ToRequests => requests_of(asked, answers),
+        Way::ToText => text_of(asked, answers),
+    }
 }
 
 // Writes a report and the answer buffer, and says whether they were taken.
@@ -34,14 +49,14 @@ fn told(mut output: Stdout, t: Report, answers: &[u8]) -> bool {
 fn answered(
     mut input: Stdin,
     output: Stdout,
-    mode: u64,
+    way: Way,
     asked: &mut [u8],
     answers: &mut [u8],
 ) -> bool {
     if read_full(&mut input, asked) < asked.len() {
         return false;
     }
-    let t = turned(mode, asked, answers);
+    let t = turned(way, asked, answers);
     told(output, t, answers)
 }
 
@@ -51,10 +66,12 @@ fn turn(mut input: Stdin, output: Stdout) -> bool {
     if read_full(&mut input, &mut head) < 5 {
         return false;
     }
-    let mode = get(&head, 0, 1);
+    let Some(way) = way_of(get(&head, 0, 1)) else {
+        return false;
+    };
     let room = get(&head, 1, 2) as usize;
     let count = get(&head, 3, 2) as usize;
-    if mode > 1 || room > MOST || count > MOST {
+    if room > MOST || count > MOST {
         return false;
     }
     let mut asked = [0u8; MOST];
@@ -62,16 +79,17 @@ fn turn(mut input: Stdin, output: Stdout) -> bool {
     answered(
         input,
         output,
-        mode,
+        way,
         &mut asked[..count],
         &mut answers[..room],
     )
 }
 
-// Nothing says that the input ends, so the turns are counted down, from a number that no run uses up.
+// Nothing says that the input ends, so the turns are counted, up to a number that no run reaches.
 fn main(rt: HostRuntime) {
-    let mut turns = u64::MAX;
-    while turns > 0 && turn(rt.stdin(), rt.stdout()) {
-        turns = turns - 1;
+    for _ in 0..u64::MAX {
+        if !turn(rt.stdin(), rt.stdout()) {
+            return;
+        }
     }
 }

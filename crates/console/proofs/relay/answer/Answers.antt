@@ -107,6 +107,6 @@ pub returns : goal.returns
 returns c =
     let t = c.reply_lines-t in
     let a = c.args in
-    let r : Round = record { kept = c.keeps-kept.result; sent = c.send-sent-2.result } in
+    let r : Round = record { kept = c.min-kept.result; sent = c.send-sent-2.result } in
     subst (λ (b : Bool). Turned (turn_on table b (take a.have a.buf.now)) r c.to_front.new.buf) (sym c.if-ended.false)
-    (open_turned a.buf.now a.have a.replies.now t.new.out t.result c.requires.0 t.ensures r c.to_front.new.buf c.keeps-kept.ensures c.to_front.ensures)
+    (open_turned a.buf.now a.have a.replies.now t.new.out t.result c.requires.0 t.ensures r c.to_front.new.buf c.min-kept.ensures c.to_front.ensures)
