@@ -44,7 +44,6 @@ use narrow::narrow;
 use poly::horner;
 use pow::pow;
 use scalbn::scalbn;
-use scalbn::single::scalbnf;
 use session::port::{read_full, write_all};
 use sqrt::sqrt;
 use std::io::{Stdin, Stdout};
@@ -172,7 +171,7 @@ fn power_leaf_f32(leaf: u64, x: f32, n: i32) -> u64 {
     match leaf {
         38 => bits_of(expf(x)) as u64,
         39 => bits_of(logf(x)) as u64,
-        40 => bits_of(scalbnf(x, n)) as u64,
+        40 => bits_of(scalbn(x, n)) as u64,
         _ => UNKNOWN,
     }
 }

@@ -3,9 +3,8 @@ use Prim.Native.Nat.{ℕ, zero, suc, ◌+◌, ◌-◌, ◌^◌, ◌<◌, ◌≤�
 use native.Mathlib.Omega.{arith}
 use mathlib.Core.Path.{◌≡◌, refl, sym, ap, ◌∙◌, subst}
 use mathlib.Core.Bool.{Bool, true, false, cond}
-use lib.Dec.{T, ltb, le→leb, lt→ltb}
+use lib.Dec.{ltb}
 use lib.IntN.{ℤ, pos, negsuc, nat_abs, sub_ℕ, ◌+ℤ◌, ◌-ℤ◌}
-use lib.Ieee.{binary32, in_float}
 use borrow.Author.Tests.{ltb-true}
 use mir.Syntax.{w32}
 use mir.Val.{SFits, to_z, of_z}
@@ -28,14 +27,8 @@ field_size : (e b : ℕ) → nat_abs (pos e -ℤ pos b) ≤ e + b
 field_size e zero = omega arith
 field_size e (suc b) = difference_size e (suc b)
 
-pub sum_small : (e b : ℕ) → e < 8192 → b < 8192 → (k : ℤ) → nat_abs k < 64 → nat_abs (k +ℤ (pos e -ℤ pos b)) < 2 ^ 24
+sum_small : (e b : ℕ) → e < 8192 → b < 8192 → (k : ℤ) → nat_abs k < 64 → nat_abs (k +ℤ (pos e -ℤ pos b)) < 2 ^ 24
 sum_small e b h i k s = omega (arith, s, h, i, sum_size k (pos e -ℤ pos b), field_size e b)
-
--- f32 holds it
-pub small_exact : (z : ℤ) → nat_abs z < 2 ^ 24 → T (in_float binary32 z)
-unfolding in_float
-small_exact (pos n) h = le→leb n (2 ^ 24) (omega (arith, h))
-small_exact (negsuc n) h = lt→ltb n (2 ^ 24) (omega (arith, h))
 
 small_fits : (z : ℤ) → nat_abs z < 2 ^ 31 → SFits w32 z
 small_fits (pos n) h = record { sfits = h }

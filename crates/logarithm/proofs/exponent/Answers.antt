@@ -1,5 +1,5 @@
 -- `logarithm::exponent` meets its contract. Assumes nothing.
-use Rattle.logarithm.proofs.Exponents.{sum_small, power_fits, sum_fits, sum_held}
+use Rattle.logarithm.proofs.Exponents.{power_fits, sum_fits, sum_held}
 use Rattle.logarithm.proofs.exponent.Goals as goal
 
 pub overflow_sub-result : goal.overflow_sub-result
@@ -9,6 +9,4 @@ pub overflow_add-result : goal.overflow_add-result
 overflow_add-result c = sum_fits _ _ c.requires.e_bound c.requires.bias_bound _ c.ranges.k c.requires.k_bound
 
 pub returns : goal.returns
-returns c =
-    let e = sum_held _ _ c.requires.e_bound c.requires.bias_bound _ c.ranges.k c.requires.k_bound in
-    record { value = e; result_bound = rw e (sum_small _ _ c.requires.e_bound c.requires.bias_bound c.args.k c.requires.k_bound) }
+returns c = sum_held _ _ c.requires.e_bound c.requires.bias_bound _ c.ranges.k c.requires.k_bound

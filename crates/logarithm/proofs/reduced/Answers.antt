@@ -18,8 +18,8 @@ returns c =
     _
     c.ranges.k
     (sfits_of c.exponent-k.type_inv)
-    c.exponent-k.ensures.value
+    c.exponent-k.ensures
     c.of_bits.ensures
-    c.near.ensures
+    (c.near.ensures log64)
     refl
     refl
