@@ -34,7 +34,7 @@ const MINUS_PI: f64 = -3.141592653589793238462643383279502884;
 
 const MINUS_ZERO: f64 = -0.0;
 
-const X1P1023: f64 = f64::from_bits(0x7fe0000000000000);
+const X1P1023: f64 = 8.98846567431157953865e+307; /* 0x7fe00000_00000000 */
 
 /* n! for small integer n */
 // A static, which a look-up reads in place; a constant would be stored to the stack each time.
