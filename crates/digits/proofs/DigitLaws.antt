@@ -23,6 +23,13 @@ unfolding digits
 length_digits zero x = refl
 length_digits (suc w) x = ap suc (length_digits w (x / 256))
 
+-- fewer of them are the first of more
+pub digits_take : (n w x : ℕ) → n ≤ w → digits n x ≡ take n (digits w x)
+unfolding digits
+digits_take zero w x h = refl
+digits_take (suc n) zero x h = absurd (omega arith)
+digits_take (suc n) (suc w) x h = ap (λ (l : List ℕ). x % 256 ∷ l) (digits_take n w (x / 256) (omega arith))
+
 -- a power of a power
 pub pow_mul : (a k n : ℕ) → a ^ (n * k) ≡ (a ^ k) ^ n
 pow_mul a k zero = rw (zero-mul k, pow-zero a, pow-zero (a ^ k))
