@@ -1,12 +1,16 @@
 -- A line and a record at a place: which case of `to_request` and of `to_line` it is, in the code's own numbers. Assumes nothing.
-use Rattle.std.specs.Prelude.{if◌then◌else◌}
+use Rattle.std.specs.Prelude.{Some, None, cond, ◌==◌, position, if◌then◌else◌}
+use Rattle.std.specs.List.{position_from}
+use Rattle.std.proofs.lemmas.List.{take_rest}
+use Rattle.std.proofs.lemmas.Option.{none-some}
+use Rattle.std.proofs.lemmas.Iterator.Adapters.{position_from-zero}
 use mathlib.Core.Path.{◌≡◌, refl, sym, ap, ◌∙◌}
 use mathlib.Core.Bool.{Bool, true, false}
 use mathlib.Core.List.{List, [], ◌∷◌}
 use Prim.Native.Nat.{ℕ, suc, ◌+◌, ◌-◌, ◌≤◌, ◌<◌, min}
 use native.Mathlib.Numerals.{add-one}
 use native.Mathlib.Omega.{arith}
-use borrow.Author.Tests.{eq-eqb, ne_eqb, lt-ltb, le-ltb}
+use borrow.Author.Tests.{lt-ltb, le-ltb}
 use lib.ListN.{length, take, drop, get_or, length-drop, drop_of_length-le}
 use lib.Seq.{drop-cons}
 use Rattle.words.specs.Tests.{◌=?◌}
@@ -16,26 +20,41 @@ use Rattle.kinds.specs.Kinds.{shape_of}
 use Rattle.records.specs.Codes.{DONE, FULL}
 use Rattle.records.specs.Run.{stop, took, choose}
 use Rattle.text.specs.Names.{Name}
-use Rattle.text.specs.Line.{asked, line_of}
+use Rattle.text.specs.Line.{asked, line_of, Asked, Ask}
 use Rattle.text.specs.Text.{NEWLINE, closed}
 use Rattle.text.specs.Trip.{record_of, first_line, as_request, to_request, body_in, to_line}
-use Rattle.text.specs.declared.Asked.{Asked}
-use Rattle.text.specs.declared.Asked.TheVariants.{Ask}
 
 -- ---- the first line of a text
-module _ (s : List ℕ) (at : ℕ) where
-  pub first_end : length s ≤ at → first_line (drop at s) ≡ []
-  unfolding first_line
-  first_end h = let e : drop at s ≡ [] = drop_of_length-le s h in rw e
+-- it ends at the first newline
+found_from : (s : List ℕ) (i j : ℕ) → position_from (λ c. c == NEWLINE) i s ≡ Some j → j ≡ i + length (first_line s)
+unfolding first_line
+found_from [] i j = λ e. absurd (none-some j e)
+found_from (c ∷ s) i j = by (c =? NEWLINE) (found_from s (i + 1) j)
+  where
+    by : (t : Bool) → (position_from (λ c. c == NEWLINE) (i + 1) s ≡ Some j → j ≡ i + 1 + length (first_line s)) → cond t (Some i) (position_from (λ c. c == NEWLINE) (i + 1) s) ≡ Some j →
+        j ≡ i + length (if t then [] else c ∷ first_line s)
+    by true later e = let f : i ≡ j = cc in omega arith
+    by false later e = omega (arith, later e)
 
-  module _ (h : at < length s) where
-    pub first_here : get_or s at 0 ≡ NEWLINE → first_line (drop at s) ≡ []
-    unfolding first_line
-    first_here e = rw (drop-cons s at 0 h, eq-eqb (get_or s at 0) NEWLINE e)
+all_from : (s : List ℕ) (i : ℕ) → position_from (λ c. c == NEWLINE) i s ≡ None → length (first_line s) ≡ length s
+unfolding first_line
+all_from [] i = λ e. refl
+all_from (c ∷ s) i = by (c =? NEWLINE) (all_from s (i + 1))
+  where
+    by : (t : Bool) → (position_from (λ c. c == NEWLINE) (i + 1) s ≡ None → length (first_line s) ≡ length s) → cond t (Some i) (position_from (λ c. c == NEWLINE) (i + 1) s) ≡ None →
+        length (if t then [] else c ∷ first_line s) ≡ suc (length s)
+    by true later e = absurd (none-some i (sym e))
+    by false later e = ap suc (later e)
 
-    pub first_more : (get_or s at 0 ≡ NEWLINE → ⊥) → first_line (drop at s) ≡ get_or s at 0 ∷ first_line (drop (at + 1) s)
-    unfolding first_line
-    first_more e = rw (drop-cons s at 0 h, ne_eqb (get_or s at 0) NEWLINE e, add-one)
+-- which the code seeks from a place on
+seen : (s : List ℕ) (at : ℕ) → position_from (λ c. c == NEWLINE) 0 (drop at s) ≡ position (λ c. c == NEWLINE) (take (length s - at) (drop at s))
+seen s at = sym (position_from-zero (λ c. c == NEWLINE) (drop at s)) ∙ ap (λ (l : List ℕ). position (λ c. c == NEWLINE) l) (sym (take_rest s at))
+
+pub first_found : (s : List ℕ) (at i : ℕ) → position (λ c. c == NEWLINE) (take (length s - at) (drop at s)) ≡ Some i → i ≡ length (first_line (drop at s))
+first_found s at i e = omega (arith, found_from (drop at s) 0 i (seen s at ∙ e))
+
+pub first_all : (s : List ℕ) (at : ℕ) → position (λ c. c == NEWLINE) (take (length s - at) (drop at s)) ≡ None → length (first_line (drop at s)) ≡ length (drop at s)
+first_all s at e = all_from (drop at s) 0 (seen s at ∙ e)
 
 -- it stands at the front of the text
 pub first_take : (s : List ℕ) → take (length (first_line s)) s ≡ first_line s

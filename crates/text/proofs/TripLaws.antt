@@ -8,7 +8,7 @@
 --     back_stops      Behind the requests of good lines: a kind without a name, a cut body, a line without room, each with its code.
 --     one_text        So no two texts of good lines have the same requests, but for a last newline.
 -- Assumes nothing.
-use Rattle.std.specs.Prelude.{if◌then◌else◌}
+use Rattle.std.specs.Prelude.{Some, None, if◌then◌else◌}
 use mathlib.Core.Path.{◌≡◌, refl, sym, ap, ◌∙◌, subst}
 use mathlib.Core.Bool.{Bool, true, false}
 use mathlib.Core.List.{List, [], ◌∷◌, ◌++◌, append_assoc, append-nil}
@@ -29,21 +29,19 @@ use Rattle.records.proofs.RunLaws.{pick_elim, Sound, stop_sound, took_sound, cho
 use Rattle.records.proofs.SplitLaws.{ahead_assoc, ahead_none, ahead_stop}
 use Rattle.records.proofs.StepLaws.{choose_unknown, choose_cut, choose_full, choose_whole}
 use Rattle.text.specs.Names.{Name, names}
-use Rattle.text.specs.Line.{asked, line_of}
+use Rattle.text.specs.Line.{asked, line_of, Asked, Bad, Ask}
 use Rattle.text.specs.Text.{NEWLINE, onto, lines, closed, text_of}
 use Rattle.text.specs.Trip.{record_of, first_line, as_request, to_request, forth, body_in, to_line, back}
 use Rattle.text.specs.Promises.{Good, request_of, requests_of, turned, ended, restored, ForthGood, ForthBad, ForthFull, ThereAndBack, BackStops, OneText}
-use Rattle.text.specs.declared.Asked.{Asked}
-use Rattle.text.specs.declared.Asked.TheVariants.{Bad, Ask}
 use Rattle.text.proofs.TextLaws.{text_lines}
 use Rattle.text.proofs.LineLaws.{bad_or_ask, line_back, ask_small, body_of, body_none, ask_body}
 use Rattle.text.proofs.PlaceLaws.{length_record, as_whole, as_full}
 
 -- ---- the steps
 as_sound : (c : ℕ) (s : List ℕ) (room n : ℕ) (a : Asked) → n ≤ length s → Sound (c ∷ s) room (as_request n room a)
-as_sound c s room n Bad h = stop_sound (c ∷ s) room UNKNOWN
-as_sound c s room n (Ask k b) h =
-    let x = record_of k b in
+as_sound c s room n None h = stop_sound (c ∷ s) room UNKNOWN
+as_sound c s room n (Some q) h =
+    let x = record_of q.kind q.bits in
     pick_elim (Sound (c ∷ s) room) (ltb room (length x)) (stop FULL) (took n x) (λ _. stop_sound (c ∷ s) room FULL)
     (λ f. took_sound c s room n x h (ltb-false room (length x) f))
 

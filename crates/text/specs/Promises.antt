@@ -1,9 +1,8 @@
 -- What is promised of lines, of texts, of replies and of the program. proofs/Promised has a proof of each: what speaks of replies or of the program
 -- holds for every table T of kinds.
-use Rattle.std.specs.Prelude.{ℕ, ◌+◌, ◌-◌, ◌*◌, ◌^◌, ◌≤◌, ◌<◌, ◌≡◌, ◌⊎◌, List, [], ◌∷◌, ◌++◌, map, length, take, drop}
+use Rattle.std.specs.Prelude.{ℕ, ◌+◌, ◌-◌, ◌*◌, ◌^◌, ◌≤◌, ◌<◌, ◌≡◌, ◌⊎◌, Some as Is, None, List, [], ◌∷◌, ◌++◌, map, length, take, drop}
 use Rattle.digits.specs.Digits.{word}
 use Rattle.hexadecimal.specs.Hex.{hex, number_s}
-use Rattle.hexadecimal.specs.declared.Number.TheVariants.{Is}
 use Rattle.kinds.specs.Kinds.{shape_of}
 use Rattle.records.specs.Reply.{bytes_of}
 use Rattle.records.specs.Row.{Row, row_in}
@@ -15,13 +14,11 @@ use Rattle.session.specs.Session.{Heard, brought, failed, Event, session, delive
 use Rattle.session.specs.Post.{Ran}
 use Rattle.text.specs.Quoted.{ascii}
 use Rattle.text.specs.Names.{Name, names}
-use Rattle.text.specs.Line.{head_of, digits_of, asked, line_of}
+use Rattle.text.specs.Line.{head_of, digits_of, asked, line_of, Asked, Bad, Ask}
 use Rattle.text.specs.Text.{NEWLINE, lines, closed, text_of, cut}
 use Rattle.text.specs.Reply.{BAD, shown, reply_to, replies_to}
 use Rattle.text.specs.Trip.{record_of, forth, back}
 use Rattle.text.specs.Typing.{typing}
-use Rattle.text.specs.declared.Asked.{Asked}
-use Rattle.text.specs.declared.Asked.TheVariants.{Bad, Ask}
 
 -- ---- lines
 
@@ -64,8 +61,8 @@ Good (l ∷ ls) = (asked names l ≡ Bad → ⊥) × Good ls
 
 -- the requests of lines in their order; a bad line has none
 abbrev pub request_of : Asked → List ℕ
-request_of Bad = []
-request_of (Ask k b) = record_of k b
+request_of None = []
+request_of (Is r) = record_of r.kind r.bits
 
 abbrev pub requests_of : List (List ℕ) → List ℕ
 requests_of [] = []

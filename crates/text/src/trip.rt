@@ -1,32 +1,35 @@
 // Text to the request stream and back, over lent buffers: a line a record. Reports and codes are the batch's; what is bad as a line stops the
 // one as an unknown kind, and a kind without a name the other.
-ghost use Rattle.std.specs.Prelude.{◌≡◌, ◌+◌, ◌-◌, ◌*◌, ◌≤◌, ◌<◌, ◌++◌, length, take, drop};
+ghost use Rattle.std.specs.Prelude.{◌≡◌, ◌+◌, ◌-◌, ◌*◌, ◌≤◌, ◌<◌, ◌==◌, ◌++◌, position, length, drop};
 ghost use Rattle.std.proofs.lemmas.List.Edits.{sets};
 ghost use Rattle.records.specs.Did.{Did};
 ghost use Rattle.hexadecimal.specs.Hex.{hex};
 ghost use Rattle.text.specs.Names.{names};
-ghost use Rattle.text.specs.Text.{closed};
+ghost use Rattle.text.specs.Text.{NEWLINE, closed};
 ghost use Rattle.text.specs.Trip.{record_of, first_line, to_request, forth, to_line, back};
 
-use crate::names::{Row, name_of};
-use crate::{Asked, ask, put_all};
+use crate::names::name_of;
+use crate::{ask, put_all};
 use digits::get;
 use kinds::body;
 use records::{CUT, DONE, FULL, Report, Tally, UNKNOWN, stopped, took};
+
+// Where the first newline stands.
+fn newline(s: &[u8]) -> Option<usize>
+    ensures { result ≡ position (λ c. c == NEWLINE) s.now }
+{
+    s.iter().position(|c| *c == b'\n')
+}
 
 // Where the line from `at` on ends: the place of its newline, or the end of the text.
 fn line_end(text: &[u8], at: usize) -> usize
     requires { at ≤ length text.now }
     ensures { result ≡ at + length (first_line (drop at text.now)) }
 {
-    let mut i = at;
-    while i < text.len() {
-        if text[i] == b'\n' {
-            return i;
-        }
-        i = i + 1;
+    match newline(&text[at..]) {
+        Some(i) => at + i,
+        None => text.len(),
     }
-    i
 }
 
 // Writes the request for a kind and bits at `out`, where there is room for it.
@@ -48,13 +51,13 @@ fn request_step(text: &[u8], at: usize, requests: &mut [u8], out: usize) -> Repo
     }
     let end = line_end(text, at);
     match ask(&text[at..end]) {
-        Asked::Bad => stopped(UNKNOWN),
-        Asked::Ask(kind, bits) => {
-            let n = 1 + body(kind);
+        None => stopped(UNKNOWN),
+        Some(request) => {
+            let n = 1 + body(request.kind);
             if requests.len() - out < n {
                 return stopped(FULL);
             }
-            put_record(requests, out, kind, bits);
+            put_record(requests, out, request.kind, request.bits);
             if end < text.len() {
                 took(end + 1 - at, n)
             } else {
@@ -90,15 +93,13 @@ pub fn requests_of(text: &[u8], requests: &mut [u8]) -> Report
     }
 }
 
-// Writes the line of a row and bits at `out`, with its newline, where there is room for it.
-fn put_line(text: &mut [u8], out: usize, n: Row, width: usize, bits: u64)
-    requires { (n.length ≤ 10) × ((width ≤ 8) × (out + n.length + 2 * width < length text.old)) }
-    ensures { text.new ≡ sets text.old out (closed (take n.length n.head ++ hex (2 * width) bits)) }
+// Writes a line at `out`: its head, the digits of the bits and its newline, where there is room for it.
+fn put_line(text: &mut [u8], out: usize, head: &[u8], width: usize, bits: u64)
+    requires { (width ≤ 8) × (out + length head.now + 2 * width < length text.old) }
+    ensures { text.new ≡ sets text.old out (closed (head.now ++ hex (2 * width) bits)) }
 {
-    let letters = n.head;
-    let head = n.length;
-    put_all(text, out, &letters[..head]);
-    let place = out + head;
+    put_all(text, out, head);
+    let place = out + head.len();
     hexadecimal::put(text, place, 2 * width, bits);
     text[place + 2 * width] = b'\n';
 }
@@ -112,21 +113,19 @@ fn line_step(requests: &[u8], at: usize, text: &mut [u8], out: usize) -> Report
         return stopped(DONE);
     }
     let kind = requests[at];
-    let n = name_of(kind);
-    if n.length == 0 {
+    let Some(head) = name_of(kind) else {
         return stopped(UNKNOWN);
-    }
+    };
     let width = body(kind);
     let place = at + 1;
     if requests.len() - place < width {
         return stopped(CUT);
     }
-    let head = n.length;
-    let length = head + 2 * width + 1;
+    let length = head.len() + 2 * width + 1;
     if text.len() - out < length {
         return stopped(FULL);
     }
-    put_line(text, out, n, width, get(requests, place, width));
+    put_line(text, out, head, width, get(requests, place, width));
     took(1 + width, length)
 }
 

@@ -1,27 +1,20 @@
--- `text::trip::line_end` meets its contract: the line from `at` on is the bytes passed and the line from here on. Assumes nothing.
-use mathlib.Core.Path.{refl, ap}
+-- `text::trip::line_end` meets its contract: the first line ends at the first newline. Assumes nothing.
+use mathlib.Core.Path.{sym}
 use native.Mathlib.Omega.{arith}
-use lib.ListN.{length}
-use Rattle.text.proofs.PlaceLaws.{first_end, first_here, first_more}
+use lib.ListN.{drop, length-drop}
+use Rattle.text.proofs.PlaceLaws.{first_found, first_all, first_in}
 use Rattle.text.proofs.trip.line_end.Goals as goal
 
-pub loop-i-init : goal.loop-i-init
-loop-i-init c = (c.requires, refl)
-
-pub returns-then-text-i-eq10 : goal.returns-then-text-i-eq10
-returns-then-text-i-eq10 c =
-    let l = c.loop-i in
+pub overflow_add-result : goal.overflow_add-result
+overflow_add-result c =
     let s = c.args.text.now in
-    omega (arith, ap length (first_here s l.i (omega arith) c.if-text-i-eq10.true), l.invariant.1)
+    let at = c.args.at in
+    record { fits = omega (arith, first_found s at c.in-Some.i (sym c.in-Some.ensures), first_in (drop at s), length-drop at s) }
 
-pub loop-i-preserved : goal.loop-i-preserved
-loop-i-preserved c =
-    let l = c.loop-i in
-    let s = c.args.text.now in
-    (omega arith, omega (arith, ap length (first_more s l.i (omega arith) c.if-text-i-eq10.false), l.invariant.1))
+pub returns-in-Some : goal.returns-in-Some
+returns-in-Some c = let s = c.args.text.now in omega (arith, first_found s c.args.at c.in-Some.i (sym c.in-Some.ensures))
 
-pub returns : goal.returns
-returns c =
-    let l = c.loop-i in
+pub returns-in-None : goal.returns-in-None
+returns-in-None c =
     let s = c.args.text.now in
-    omega (arith, ap length (first_end s l.i (omega arith)), l.invariant.1)
+    omega (arith, first_all s c.args.at (sym c.in-None.ensures), length-drop c.args.at s)

@@ -11,10 +11,8 @@ use Rattle.records.specs.Did.{Did}
 use Rattle.records.specs.declared.Report.{Report}
 use Rattle.records.proofs.StepLaws.{did_stop, did_took}
 use Rattle.text.specs.Names.{names}
-use Rattle.text.specs.Line.{asked}
+use Rattle.text.specs.Line.{asked, Asked, Bad, Ask}
 use Rattle.text.specs.Trip.{record_of, first_line, as_request, to_request}
-use Rattle.text.specs.declared.Asked.{Asked}
-use Rattle.text.specs.declared.Asked.TheVariants.{Bad, Ask}
 use Rattle.text.proofs.PlaceLaws.{first_take, first_in, length_record, as_full, as_whole, request_end, request_at}
 use Rattle.text.proofs.trip.request_step.Goals as goal
 
@@ -61,35 +59,35 @@ pub slice_bounds-ask-end : goal.slice_bounds-ask-end
 slice_bounds-ask-end c = end_in c.args.text.now c.args.at _ c.line_end-end.ensures (omega arith)
 
 pub overflow_add-n : goal.overflow_add-n
-overflow_add-n c = record { fits = omega (arith, c.body-n.ensures, body_small c.in-Ask.kind) }
+overflow_add-n c = record { fits = omega (arith, c.body-n.ensures, body_small c.in-Some.request.kind) }
 
 pub returns-then-requests-out : goal.returns-then-requests-out
 returns-then-requests-out c =
     let a = c.args in
     let s = a.text.now in
     let room = length a.requests.now - a.out in
-    let k = c.in-Ask.kind in
-    let b = c.in-Ask.bits in
+    let k = c.in-Some.request.kind in
+    let b = c.in-Some.request.bits in
     did_stop _ _ 3 a.out a.requests.now c.stopped-then-requests-out.ensures
-    (is_request s a.at room k b (omega arith) (says s a.at _ c.line_end-end.ensures (Ask k b) c.in-Ask.ensures)
+    (is_request s a.at room k b (omega arith) (says s a.at _ c.line_end-end.ensures (Ask k b) c.in-Some.ensures)
     ∙ as_full (more s a.at) room k b (omega (arith, c.body-n.ensures)))
 
-pub returns-in-Bad : goal.returns-in-Bad
-returns-in-Bad c =
+pub returns-in-None : goal.returns-in-None
+returns-in-None c =
     let a = c.args in
     let s = a.text.now in
-    did_stop _ _ 1 a.out a.requests.now c.stopped-in-Bad.ensures
+    did_stop _ _ 1 a.out a.requests.now c.stopped-in-None.ensures
     (request_at names s a.at (length a.requests.now - a.out) (more s a.at) Bad (omega arith) refl
-    (says s a.at _ c.line_end-end.ensures Bad c.in-Bad.ensures))
+    (says s a.at _ c.line_end-end.ensures Bad c.in-None.ensures))
 
 pub returns-then-end-text : goal.returns-then-end-text
 returns-then-end-text c =
     let a = c.args in
     let s = a.text.now in
-    let k = c.in-Ask.kind in
-    let b = c.in-Ask.bits in
+    let k = c.in-Some.request.kind in
+    let b = c.in-Some.request.bits in
     let f = c.line_end-end.ensures in
-    taken s a.at (length a.requests.now - a.out) k b (omega arith) (says s a.at _ f (Ask k b) c.in-Ask.ensures)
+    taken s a.at (length a.requests.now - a.out) k b (omega arith) (says s a.at _ f (Ask k b) c.in-Some.ensures)
     _ _ (1 + c.body-n.result) a.out a.requests.now c.put_record.new.requests (ap (1 +◌) c.body-n.ensures) (omega arith) c.took.ensures (omega (arith, f))
     c.put_record.ensures
 
@@ -97,9 +95,9 @@ pub returns-else-end-text : goal.returns-else-end-text
 returns-else-end-text c =
     let a = c.args in
     let s = a.text.now in
-    let k = c.in-Ask.kind in
-    let b = c.in-Ask.bits in
+    let k = c.in-Some.request.kind in
+    let b = c.in-Some.request.bits in
     let f = c.line_end-end.ensures in
-    taken s a.at (length a.requests.now - a.out) k b (omega arith) (says s a.at _ f (Ask k b) c.in-Ask.ensures)
+    taken s a.at (length a.requests.now - a.out) k b (omega arith) (says s a.at _ f (Ask k b) c.in-Some.ensures)
     _ _ (1 + c.body-n.result) a.out a.requests.now c.put_record.new.requests (ap (1 +◌) c.body-n.ensures) (omega arith) c.took-else-end-text.ensures
     (omega (arith, f, end_in s a.at _ f (omega arith))) c.put_record.ensures
