@@ -2,13 +2,15 @@
 use mathlib.Core.Path.{◌≡◌, refl, sym, ap, ◌∙◌}
 use mathlib.Core.List.{List, [], ◌∷◌, ◌++◌}
 use Prim.Native.Nat.{ℕ, zero, suc, ◌+◌, ◌-◌, ◌*◌, ◌^◌, ◌/◌, ◌%◌, ◌≤◌, ◌<◌}
-use native.Mathlib.Nat.{zero-add, suc-add, zero-mul, suc-mul, one-mul, pow-zero, pow-suc, pow-le-pow_right, one-le-pow, mod-eq_of_lt, add-mul-mod_self_left}
+use native.Mathlib.Nat.{zero-add, suc-add, zero-mul, suc-mul, one-mul, pow-zero, pow-suc, one-le-pow, mod-eq_of_lt, div-div-eq-div-mul, add-mul-mod_self_left}
 use native.Mathlib.Omega.{arith}
 use lib.Arith.{mod-mul}
 use lib.Dec.{lit<}
 use lib.Pow.{pow-add, shl_exact}
 use lib.ListN.{length, take, drop, get_or}
 use lib.Seq.{drop-drop, get_or-drop}
+use Rattle.std.specs.Prelude.{replicate}
+use Rattle.std.specs.Int.{w64, to_le_bytes, from_le_bytes}
 use Rattle.digits.specs.Digits.{digits, word}
 
 pub digits_more : (w x : ℕ) → 0 < w → digits w x ≡ x % 256 ∷ digits (w - 1) (x / 256)
@@ -21,20 +23,12 @@ unfolding digits
 length_digits zero x = refl
 length_digits (suc w) x = ap suc (length_digits w (x / 256))
 
--- one byte more at the low end
-pub word_at : (s : List ℕ) (at n : ℕ) → word (suc n) (drop at s) ≡ get_or s at 0 + 256 * word n (drop (at + 1) s)
-unfolding word
-word_at s at n = rw (get_or-drop, drop-drop) (ap (λ (k : ℕ). get_or s k 0 + 256 * word n (drop (at + 1) s)) (omega arith))
-
-pub word_more : (s : List ℕ) (at w i : ℕ) → 0 < i → i ≤ w → word (w - (i - 1)) (drop (at + (i - 1)) s) ≡ word (w - i) (drop (at + i) s) * 256 + get_or s (at + (i - 1)) 0
-word_more s at w i h l =
-    let e : w - (i - 1) ≡ suc (w - i) = omega arith in
-    let d : at + (i - 1) + 1 ≡ at + i = omega arith in
-    let p : word (suc (w - i)) (drop (at + (i - 1)) s) ≡ get_or s (at + (i - 1)) 0 + 256 * word (w - i) (drop (at + (i - 1) + 1) s) = word_at s (at + (i - 1)) (w - i) in
-    rw e (p ∙ rw d (omega arith))
-
-pub byte_more : (n x b : ℕ) → x < 256 ^ n → b < 256 → x * 256 + b < 256 ^ suc n
-byte_more n x b h l = rw pow-suc (omega arith)
+-- fewer of them are the first of more
+pub digits_take : (n w x : ℕ) → n ≤ w → digits n x ≡ take n (digits w x)
+unfolding digits
+digits_take zero w x h = refl
+digits_take (suc n) zero x h = absurd (omega arith)
+digits_take (suc n) (suc w) x h = ap (λ (l : List ℕ). x % 256 ∷ l) (digits_take n w (x / 256) (omega arith))
 
 -- a power of a power
 pub pow_mul : (a k n : ℕ) → a ^ (n * k) ≡ (a ^ k) ^ n
@@ -45,12 +39,6 @@ pow_mul a k (suc n) = rw (suc-mul, pow-add, pow_mul a k n) (sym (pow-suc (a ^ k)
 pub shifted : (n : ℕ) → n < 8 → 1 * 2 ^ (n * 8) % 2 ^ 64 ≡ 256 ^ n
 shifted n h = shl_exact 1 (n * 8) 64 (lit< tt) (omega arith) ∙ one-mul (2 ^ (n * 8)) ∙ pow_mul 2 8 n
 
-pub below_64 : (n x : ℕ) → n ≤ 8 → x < 256 ^ n → x < 18446744073709551616
-below_64 n x h l =
-    let p : 256 ^ n ≤ 256 ^ 8 = pow-le-pow_right (omega arith) h in
-    let q : 256 ^ n ≤ 18446744073709551616 = p in
-    omega arith
-
 -- a byte that is not there counts as 0
 pub word_short : (w : ℕ) (s : List ℕ) → length s ≤ w → word (length s) s ≡ word w s
 unfolding word
@@ -58,6 +46,20 @@ word_short zero [] h = refl
 word_short (suc w) [] h = ap (λ (n : ℕ). 0 + 256 * n) (word_short w [] (omega arith))
 word_short zero (x ∷ s) h = absurd (omega arith)
 word_short (suc w) (x ∷ s) h = ap (λ (n : ℕ). x + 256 * n) (word_short w s (omega arith))
+
+pub word_zeros : (w n : ℕ) (s : List ℕ) → word w (s ++ replicate n 0) ≡ word w s
+unfolding word
+word_zeros zero n s = refl
+word_zeros (suc w) zero [] = refl
+word_zeros (suc w) (suc n) [] = ap (λ (k : ℕ). 0 + 256 * k) (word_zeros w n [])
+word_zeros (suc w) n (x ∷ s) = ap (λ (k : ℕ). x + 256 * k) (word_zeros w n s)
+
+-- of no bytes all are 0
+pub word_none : (w n : ℕ) → word w (take n []) ≡ 0
+unfolding word
+word_none zero n = refl
+word_none (suc w) zero = sym (word_short (suc w) [] (omega arith))
+word_none (suc w) (suc n) = sym (word_short (suc w) [] (omega arith))
 
 -- bytes behind those that are read do not count
 pub word_append : (w : ℕ) (s t : List ℕ) → w ≤ length s → word w (s ++ t) ≡ word w s
@@ -123,3 +125,12 @@ digits_word (suc w) (x ∷ s) h b =
     let e : (x + 256 * word w s) % 256 ≡ x = omega arith in
     let f : (x + 256 * word w s) / 256 ≡ word w s = omega arith in
     rw (e, f) (ap (λ (l : List ℕ). x ∷ l) (digits_word w s (omega arith) (λ i. b (suc i))))
+
+-- ---- eight bytes, as std says them
+pub from_le_word : (s : List ℕ) → from_le_bytes w64 s ≡ word 8 s
+unfolding word
+from_le_word s = simp (get_or-drop, drop-drop) (omega arith)
+
+pub to_le_digits : (x : ℕ) → to_le_bytes w64 x ≡ digits 8 x
+unfolding digits
+to_le_digits x = simp div-div-eq-div-mul refl

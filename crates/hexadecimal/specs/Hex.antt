@@ -1,9 +1,7 @@
 -- Numbers in lower-case hex, the highest digit first.
-use Rattle.std.specs.Prelude.{ℕ, zero, suc, ◌+◌, ◌-◌, ◌*◌, ◌^◌, ◌/◌, ◌%◌, Bool, true, false, List, [], ◌∷◌, length, if◌then◌else◌}
+use Rattle.std.specs.Prelude.{ℕ, zero, suc, ◌+◌, ◌-◌, ◌*◌, ◌^◌, ◌/◌, ◌%◌, Option, Some, None, Bool, true, false, List, [], ◌∷◌, length, if◌then◌else◌}
 use Prim.Native.Char.{code}
 use Rattle.words.specs.Tests.{◌<?◌, ◌≤?◌}
-use Rattle.hexadecimal.specs.declared.Number.{Number}
-use Rattle.hexadecimal.specs.declared.Number.TheVariants.{None, Is}
 
 -- the character of a digit: 0 to 9, a to f
 unfoldable pub char_of : ℕ → ℕ
@@ -17,6 +15,10 @@ digit_of c =
     if c <? code "a" then 16 else
     if c ≤? code "f" then c - code "a" + 10 else
     16
+
+-- and so none where it is none
+unfoldable pub digit_s : ℕ → Option ℕ
+digit_s c = if digit_of c <? 16 then Some (digit_of c) else None
 
 -- the w lowest digits of x
 unfoldable pub hex : ℕ → ℕ → List ℕ
@@ -34,5 +36,5 @@ value [] = 0
 value (c ∷ s) = digit_of c * 16 ^ length s + value s
 
 -- what a text says as a number: at most 16 digits, and nothing else; no digit at all is 0
-unfoldable pub number_s : List ℕ → Number
-number_s s = if length s ≤? 16 then (if all_hex s then Is (value s) else None) else None
+unfoldable pub number_s : List ℕ → Option ℕ
+number_s s = if length s ≤? 16 then (if all_hex s then Some (value s) else None) else None

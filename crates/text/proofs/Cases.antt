@@ -15,12 +15,10 @@ use Rattle.records.specs.declared.Code.TheVariants.{Done, Unknown, Cut, Full}
 use Rattle.records.specs.Run.{Out, run_by, steps_by}
 use Rattle.text.specs.Quoted.{ascii}
 use Rattle.text.specs.Names.{names}
-use Rattle.text.specs.Line.{begins, asked_as, asked, line_of}
+use Rattle.text.specs.Line.{begins, asked_as, asked, line_of, Asked, Bad, Ask}
 use Rattle.text.specs.Text.{lines, text_of}
 use Rattle.text.specs.Reply.{shown, reply_to, replies_to}
 use Rattle.text.specs.Trip.{first_line, to_request, forth, body_in, to_line, back}
-use Rattle.text.specs.declared.Asked.{Asked}
-use Rattle.text.specs.declared.Asked.TheVariants.{Bad, Ask}
 
 -- what lines ask for
 abbrev Asks : String → Asked → Type 0

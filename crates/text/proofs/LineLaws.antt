@@ -1,4 +1,5 @@
 -- A line and what it asks for: a good line is the line of its request, and the line of a request asks for it. Assumes nothing.
+use Rattle.std.specs.Prelude.{Option, Some, None}
 use mathlib.Core.Path.{◌≡◌, refl, sym, ap, ◌∙◌, subst}
 use mathlib.Core.Bool.{Bool, true, false, not, ◌&&◌}
 use mathlib.Core.List.{List, [], ◌∷◌, ◌++◌}
@@ -13,19 +14,15 @@ use lib.Seq.{drop-append_seam}
 use Rattle.words.specs.Pick.{pick}
 use Rattle.digits.proofs.DigitLaws.{pow_mul}
 use Rattle.hexadecimal.specs.Hex.{hex, number_s}
-use Rattle.hexadecimal.specs.declared.Number.{Number}
-use Rattle.hexadecimal.specs.declared.Number.TheVariants.{None, Is}
 use Rattle.hexadecimal.proofs.HexLaws.{length_hex, number_hex, hex_number}
 use Rattle.kinds.specs.Kinds.{shapes, shape_of}
 use Rattle.kinds.specs.Shape.{shape_in}
 use Rattle.kinds.proofs.Every.{and_left, and_right}
 use Rattle.kinds.proofs.ShapeLaws.{body_small}
 use Rattle.text.specs.Names.{Name, names}
-use Rattle.text.specs.Line.{head_of, digits_of, begins, ask_of, asked_by, asked_as, or_else, asked, line_of}
+use Rattle.text.specs.Line.{head_of, digits_of, begins, ask_of, asked_by, asked_as, or_else, asked, line_of, Asked, Bad, Ask}
 use Rattle.text.specs.Trip.{body_in}
 use Rattle.text.specs.Promises.{In, Says, SaysGood, LineBack, OneLine, LineAsks}
-use Rattle.text.specs.declared.Asked.{Asked}
-use Rattle.text.specs.declared.Asked.TheVariants.{Bad, Ask}
 
 -- a test that passes at each name of a table
 abbrev pub all : (Name → Bool) → List Name → Bool
@@ -39,6 +36,17 @@ all_at f (m ∷ ms) n t (inr i) = all_at f ms n (and_right (f m) (all f ms) t) i
 
 no_ask : {A : Type 0} (k b : ℕ) → Bad ≡ Ask k b → A
 no_ask k b e = let z : ◌≡◌ {A = ℕ} 0 1 = cc in absurd (omega arith)
+
+same_ask : (j y k b : ℕ) → Ask j y ≡ Ask k b → (k ≡ j) × (y ≡ b)
+same_ask j y k b e = (sym (ap kind e), ap bits e)
+  where
+    kind : Asked → ℕ
+    kind None = j
+    kind (Some r) = r.kind
+
+    bits : Asked → ℕ
+    bits None = y
+    bits (Some r) = r.bits
 
 -- s is p and what stands behind it
 pub begins_split : (p s : List ℕ) → begins p s ≡ true → p ++ drop (length p) s ≡ s
@@ -59,14 +67,13 @@ two_a_byte w = ap (λ (j : ℕ). 16 ^ j) (mul_comm 2 w) ∙ pow_mul 16 2 w
 digits_say : (k j b : ℕ) (d : List ℕ) → asked_by j d ≡ Ask k b → (k ≡ j) × ((d ≡ hex (digits_of j) b) × (b < 16 ^ digits_of j))
 digits_say k j b d = by_length (eqb (length d) (digits_of j)) refl
   where
-    by_number : (x : Number) → number_s d ≡ x → length d ≡ digits_of j → ask_of j x ≡ Ask k b → (k ≡ j) × ((d ≡ hex (digits_of j) b) × (b < 16 ^ digits_of j))
+    by_number : (x : Option ℕ) → number_s d ≡ x → length d ≡ digits_of j → ask_of j x ≡ Ask k b → (k ≡ j) × ((d ≡ hex (digits_of j) b) × (b < 16 ^ digits_of j))
     by_number None q l e = no_ask k b e
-    by_number (Is y) q l e =
-        let ek : k ≡ j = cc in
-        let eb : y ≡ b = cc in
+    by_number (Some y) q l e =
+        let same = same_ask j y k b e in
         let h = hex_number d y q in
         let r : (d ≡ hex (digits_of j) y) × (y < 16 ^ digits_of j) = subst (λ (m : ℕ). (d ≡ hex m y) × (y < 16 ^ m)) l (sym h.0, h.1) in
-        (ek, subst (λ (v : ℕ). (d ≡ hex (digits_of j) v) × (v < 16 ^ digits_of j)) eb r)
+        (same.0, subst (λ (v : ℕ). (d ≡ hex (digits_of j) v) × (v < 16 ^ digits_of j)) same.1 r)
 
     by_length : (t : Bool) → eqb (length d) (digits_of j) ≡ t → pick t (ask_of j (number_s d)) Bad ≡ Ask k b → (k ≡ j) × ((d ≡ hex (digits_of j) b) × (b < 16 ^ digits_of j))
     by_length true q e = by_number (number_s d) refl (eqb-true _ _ q) e
@@ -94,8 +101,8 @@ good_says (n ∷ ns) s k b e = by_first (λ h. good_says ns s k b h) (asked_as (
   where
     by_first : (asked ns s ≡ Ask k b → (m : Name) × (In m ns × Says m s k b)) → (a : Asked) → asked_as (head_of n) n.kind s ≡ a → or_else a (asked ns s) ≡ Ask k b →
         (m : Name) × (In m (n ∷ ns) × Says m s k b)
-    by_first later Bad q h = let r = later h in (r.0, (inr r.1.0, r.1.1))
-    by_first later (Ask j v) q h = (n, (inl refl, as_says n s k b (q ∙ h)))
+    by_first later None q h = let r = later h in (r.0, (inr r.1.0, r.1.1))
+    by_first later (Some r) q h = (n, (inl refl, as_says n s k b (q ∙ h)))
 
 -- ---- the line of a request
 
@@ -253,8 +260,8 @@ pub bad_or_ask : (N : List Name) (s : List ℕ) → (asked N s ≡ Bad) ⊎ ((k 
 bad_or_ask N s = by-case (asked N s) refl
   where
     by-case : (a : Asked) → asked N s ≡ a → (asked N s ≡ Bad) ⊎ ((k : ℕ) × ((b : ℕ) × (asked N s ≡ Ask k b)))
-    by-case Bad e = inl e
-    by-case (Ask k b) e = inr (k, (b, e))
+    by-case None e = inl e
+    by-case (Some r) e = inr (r.kind, (r.bits, e))
 
 -- a line over 25 bytes is bad
 pub long_bad : (s : List ℕ) → 25 < length s → asked names s ≡ Bad

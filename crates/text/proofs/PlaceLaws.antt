@@ -19,11 +19,9 @@ use Rattle.kinds.specs.Kinds.{shape_of}
 use Rattle.records.specs.declared.Code.TheVariants.{Full}
 use Rattle.records.specs.Run.{stop, took, choose}
 use Rattle.text.specs.Names.{Name}
-use Rattle.text.specs.Line.{asked, line_of}
+use Rattle.text.specs.Line.{asked, line_of, Asked, Ask}
 use Rattle.text.specs.Text.{NEWLINE, closed}
 use Rattle.text.specs.Trip.{record_of, first_line, as_request, to_request, body_in, to_line}
-use Rattle.text.specs.declared.Asked.{Asked}
-use Rattle.text.specs.declared.Asked.TheVariants.{Ask}
 
 -- ---- the first line of a text
 

@@ -3,6 +3,7 @@
 --     reply_lines     The lines of the replies are the replies to the lines, so there are as many (as_many).
 --     shows_value, shows_sign  What an answer as text shows is found again in it.
 --     same_answer     The reply to a good line shows the answer that a run gives to its request.
+use Rattle.std.specs.Prelude.{Some}
 use mathlib.Core.Path.{◌≡◌, refl, sym, ap, ◌∙◌, subst}
 use mathlib.Core.Bool.{Bool, true, false}
 use mathlib.Core.List.{List, [], ◌∷◌, ◌++◌, map, append-nil}
@@ -15,7 +16,6 @@ use lib.ListN.{length, drop, length-append, length-map, drop_of_length-le}
 use lib.Seq.{take_at, drop_at}
 use Rattle.words.specs.Pick.{pick}
 use Rattle.hexadecimal.specs.Hex.{hex, number_s}
-use Rattle.hexadecimal.specs.declared.Number.TheVariants.{Is}
 use Rattle.hexadecimal.proofs.HexLaws.{length_hex, number_mod, From, hex_from}
 use Rattle.digits.specs.Digits.{digits, word}
 use Rattle.digits.proofs.DigitLaws.{length_digits, word_rest, word_digits}
@@ -30,12 +30,11 @@ use Rattle.records.proofs.SplitLaws.{ahead_stop}
 use Rattle.records.proofs.StepLaws.{choose_whole}
 use Rattle.text.specs.Quoted.{ascii}
 use Rattle.text.specs.Names.{names}
-use Rattle.text.specs.Line.{SPACE, asked}
+use Rattle.text.specs.Line.{SPACE, asked, Bad, Ask}
 use Rattle.text.specs.Text.{NEWLINE, lines, closed}
 use Rattle.text.specs.Reply.{BAD, sign_text, shown, reply_of, reply_to, replies_to}
 use Rattle.text.specs.Trip.{record_of}
 use Rattle.text.specs.Promises.{ReplyOrBad, SameAnswer, ShowsValue, ShowsSign}
-use Rattle.text.specs.declared.Asked.TheVariants.{Bad, Ask}
 use Rattle.text.proofs.TextLaws.{Free, AllFree, free_append, lines_text, lines_free}
 use Rattle.text.proofs.LineLaws.{two_a_byte, bad_or_ask, good_length, ask_small, ask_body}
 
@@ -173,7 +172,7 @@ shows_value r h =
     let x = hex (2 * w) b in (
       refl,
       ap number_s (take_at x (sign_text r) (2 * w) (length_hex (2 * w) b)) ∙ number_mod (2 * w) b (omega arith)
-          ∙ ap (λ (m : ℕ). Is (b % m)) (two_a_byte w) ∙ sym (ap Is (word_rest w b (digits r.more r.extra))),
+          ∙ ap (λ (m : ℕ). Some (b % m)) (two_a_byte w) ∙ sym (ap Some (word_rest w b (digits r.more r.extra))),
     )
 
 sign_at : (r : Reply) → drop (1 + 2 * r.width) (shown r) ≡ sign_text r

@@ -28,12 +28,10 @@ use Rattle.records.proofs.RunLaws.{by_refused, by_took}
 use Rattle.records.proofs.SplitLaws.{ahead_assoc, ahead_none, ahead_stop}
 use Rattle.records.proofs.StepLaws.{choose_unknown, choose_cut, choose_full, choose_whole}
 use Rattle.text.specs.Names.{names}
-use Rattle.text.specs.Line.{asked, line_of}
+use Rattle.text.specs.Line.{asked, line_of, Asked, Bad, Ask}
 use Rattle.text.specs.Text.{NEWLINE, onto, lines, closed, text_of}
 use Rattle.text.specs.Trip.{record_of, first_line, as_request, to_request, forth, body_in, to_line, back}
 use Rattle.text.specs.Promises.{Good, request_of, requests_of, turned, ended, restored, ForthGood, ForthBad, ForthFull, ThereAndBack, BackStops, OneText}
-use Rattle.text.specs.declared.Asked.{Asked}
-use Rattle.text.specs.declared.Asked.TheVariants.{Bad, Ask}
 use Rattle.text.specs.Steps.{request_lawful, line_lawful}
 use Rattle.text.proofs.TextLaws.{text_lines}
 use Rattle.text.proofs.LineLaws.{bad_or_ask, line_back, ask_small, body_of, body_none, ask_body}

@@ -1,14 +1,11 @@
 -- A line, without its newline, over any table of names: what it asks for, and the line that asks for it.
-use Rattle.std.specs.Prelude.{ℕ, ◌*◌, Bool, true, false, List, [], ◌∷◌, ◌++◌, length, drop, if◌then◌else◌}
+use Rattle.std.specs.Prelude.{ℕ, ◌*◌, Bool, true, false, Option, Some, None, List, [], ◌∷◌, ◌++◌, length, drop, if◌then◌else◌}
 use Prim.Native.Char.{code}
 use Rattle.words.specs.Tests.{◌=?◌}
 use Rattle.hexadecimal.specs.Hex.{hex, number_s}
-use Rattle.hexadecimal.specs.declared.Number.{Number}
-use Rattle.hexadecimal.specs.declared.Number.TheVariants.{None, Is}
 use Rattle.kinds.specs.Kinds.{shape_of}
 use Rattle.text.specs.Names.{Name}
-use Rattle.text.specs.declared.Asked.{Asked}
-use Rattle.text.specs.declared.Asked.TheVariants.{Bad, Ask}
+use Rattle.text.specs.declared.Request.{Request}
 
 abbrev pub SPACE : ℕ
 SPACE = code " "
@@ -27,9 +24,19 @@ begins [] s = true
 begins (a ∷ p) [] = false
 begins (a ∷ p) (b ∷ s) = if b =? a then begins p s else false
 
-abbrev pub ask_of : ℕ → Number → Asked
+-- what a line asks for: nothing where it is bad, and else the bits b of a kind k
+abbrev pub Asked : Type 0
+Asked = Option Request
+
+abbrev pub Bad : Asked
+Bad = None
+
+abbrev pub Ask : ℕ → ℕ → Asked
+Ask k b = Some (record { kind = k; bits = b })
+
+abbrev pub ask_of : ℕ → Option ℕ → Asked
 ask_of k None = Bad
-ask_of k (Is b) = Ask k b
+ask_of k (Some b) = Ask k b
 
 -- what the digits s ask of a kind
 abbrev pub asked_by : ℕ → List ℕ → Asked
@@ -41,8 +48,8 @@ asked_as p k s = if begins p s then asked_by k (drop (length p) s) else Bad
 
 -- where it is no such line, what the other names say
 abbrev pub or_else : Asked → Asked → Asked
-or_else Bad later = later
-or_else (Ask k b) later = Ask k b
+or_else None later = later
+or_else (Some r) later = Some r
 
 -- what a line asks for: it is bad where it is a line of no name, and else good
 unfoldable pub asked : List Name → List ℕ → Asked

@@ -3,7 +3,6 @@
 use Rattle.std.specs.Prelude.{ℕ, ◌+◌, ◌-◌, ◌*◌, ◌^◌, ◌≤◌, ◌<◌, ◌≡◌, ◌⊎◌, List, [], ◌∷◌, ◌++◌, map, length, take, drop, Option, None, Some}
 use Rattle.digits.specs.Digits.{word}
 use Rattle.hexadecimal.specs.Hex.{hex, number_s}
-use Rattle.hexadecimal.specs.declared.Number.TheVariants.{Is}
 use Rattle.kinds.specs.Kinds.{shape_of}
 use Rattle.records.specs.Reply.{bytes_of}
 use Rattle.records.specs.Row.{Row, row_in}
@@ -16,13 +15,11 @@ use Rattle.session.specs.Session.{Heard, brought, failed, Event, session, delive
 use Rattle.session.specs.Post.{Ran}
 use Rattle.text.specs.Quoted.{ascii}
 use Rattle.text.specs.Names.{Name, names}
-use Rattle.text.specs.Line.{head_of, digits_of, asked, line_of}
+use Rattle.text.specs.Line.{head_of, digits_of, asked, line_of, Asked, Bad, Ask}
 use Rattle.text.specs.Text.{NEWLINE, lines, closed, text_of, cut}
 use Rattle.text.specs.Reply.{BAD, shown, reply_to, replies_to}
 use Rattle.text.specs.Trip.{record_of, forth, back}
 use Rattle.text.specs.Typing.{typing}
-use Rattle.text.specs.declared.Asked.{Asked}
-use Rattle.text.specs.declared.Asked.TheVariants.{Bad, Ask}
 
 -- ---- lines
 
@@ -65,8 +62,8 @@ Good (l ∷ ls) = (asked names l ≡ Bad → ⊥) × Good ls
 
 -- the requests of lines in their order; a bad line has none
 abbrev pub request_of : Asked → List ℕ
-request_of Bad = []
-request_of (Ask k b) = record_of k b
+request_of None = []
+request_of (Some r) = record_of r.kind r.bits
 
 abbrev pub requests_of : List (List ℕ) → List ℕ
 requests_of [] = []
@@ -172,7 +169,7 @@ SameAnswer T =
 abbrev pub ShowsValue : Type 0
 ShowsValue =
     (r : Reply) → r.width ≤ 8 →
-    (take 1 (shown r) ≡ ascii " ") × (number_s (take (2 * r.width) (drop 1 (shown r))) ≡ Is (word r.width (drop 1 (bytes_of r))))
+    (take 1 (shown r) ≡ ascii " ") × (number_s (take (2 * r.width) (drop 1 (shown r))) ≡ Some (word r.width (drop 1 (bytes_of r))))
 
 -- Behind them stands nothing where `more` is 0; else a space and a + where `extra`, the sign byte, is 1, and a space and a - where it is not.
 abbrev pub ShowsSign : Type 0

@@ -1,15 +1,13 @@
 -- The reply to a line and to a text, over any table of kinds: what a reply shows is the row's own answer.
-use Rattle.std.specs.Prelude.{ℕ, ◌*◌, List, [], ◌∷◌, ◌++◌, map, if◌then◌else◌}
+use Rattle.std.specs.Prelude.{ℕ, ◌*◌, Some, None, List, [], ◌∷◌, ◌++◌, map, if◌then◌else◌}
 use Rattle.words.specs.Tests.{◌=?◌}
 use Rattle.hexadecimal.specs.Hex.{hex}
 use Rattle.records.specs.Row.{Row, row_in}
 use Rattle.records.specs.declared.Reply.{Reply}
 use Rattle.text.specs.Quoted.{ascii}
 use Rattle.text.specs.Names.{names}
-use Rattle.text.specs.Line.{SPACE, asked}
+use Rattle.text.specs.Line.{SPACE, asked, Asked}
 use Rattle.text.specs.Text.{lines, text_of}
-use Rattle.text.specs.declared.Asked.{Asked}
-use Rattle.text.specs.declared.Asked.TheVariants.{Bad, Ask}
 
 abbrev pub BAD : List ℕ
 BAD = ascii "bad"
@@ -24,8 +22,8 @@ shown r = SPACE ∷ (hex (2 * r.width) r.bits ++ sign_text r)
 
 -- the line s and the answer to what it asks for
 abbrev pub reply_of : List Row → List ℕ → Asked → List ℕ
-reply_of T s Bad = BAD
-reply_of T s (Ask k b) = s ++ shown ((row_in T k).reply b)
+reply_of T s None = BAD
+reply_of T s (Some r) = s ++ shown ((row_in T r.kind).reply r.bits)
 
 unfoldable pub reply_to : List Row → List ℕ → List ℕ
 reply_to T s = reply_of T s (asked names s)

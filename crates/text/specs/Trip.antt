@@ -1,15 +1,13 @@
 -- Text to the request stream and back, over any table of names, as runs: a step takes the first line, or the first record.
-use Rattle.std.specs.Prelude.{ℕ, min, List, [], ◌∷◌, length, if◌then◌else◌}
+use Rattle.std.specs.Prelude.{ℕ, min, Some, None, List, [], ◌∷◌, length, if◌then◌else◌}
 use Rattle.words.specs.Tests.{◌<?◌, ◌=?◌}
 use Rattle.digits.specs.Digits.{digits, word}
 use Rattle.kinds.specs.Kinds.{shape_of}
 use Rattle.records.specs.declared.Code.TheVariants.{Done, Unknown, Full}
 use Rattle.records.specs.Run.{Out, stop, took, choose, run_by}
 use Rattle.text.specs.Names.{Name}
-use Rattle.text.specs.Line.{asked, line_of}
+use Rattle.text.specs.Line.{asked, line_of, Asked}
 use Rattle.text.specs.Text.{NEWLINE, closed}
-use Rattle.text.specs.declared.Asked.{Asked}
-use Rattle.text.specs.declared.Asked.TheVariants.{Bad, Ask}
 
 -- what a kind and a number are as a request
 abbrev pub record_of : ℕ → ℕ → List ℕ
@@ -22,8 +20,8 @@ first_line (c ∷ s) = if c =? NEWLINE then [] else c ∷ first_line s
 
 -- A line as a request, of whose text n bytes are read behind the first: a bad line stops the run as an unknown kind does.
 abbrev pub as_request : ℕ → ℕ → Asked → Out
-as_request n room Bad = stop Unknown
-as_request n room (Ask k b) = if room <? length (record_of k b) then stop Full else took n (record_of k b)
+as_request n room None = stop Unknown
+as_request n room (Some r) = if room <? length (record_of r.kind r.bits) then stop Full else took n (record_of r.kind r.bits)
 
 -- The first line l is read with its newline: the first byte of the text, which may be that newline, and length l more. Where there is no newline
 -- l is all of the text, and behind its first byte are length s bytes.

@@ -4,97 +4,61 @@
 mod names;
 mod trip;
 
-ghost use Rattle.std.specs.Prelude.{◌≡◌, ◌≤◌, length, take};
+ghost use Rattle.std.specs.Prelude.{◌≡◌};
 ghost use Rattle.std.proofs.lemmas.List.Edits.{sets};
 ghost use Rattle.text.specs.Names.{names};
-ghost use Rattle.text.specs.Line.{begins, asked_by, asked_as, asked};
+ghost use Rattle.text.specs.Line.{asked_by, asked_as, asked};
 
-use hexadecimal::Number;
 use kinds::body;
-use names::{COUNT, Row, name};
+use names::{Row, rows};
 pub use trip::{requests_of, text_of};
 
-// What a line asks for.
+// What a good line asks for: a kind, and the bits of the argument.
 #[derive(Clone, Copy)]
-pub enum Asked {
-    Bad,
-    Ask(u8, u64),
-}
-
-// Whether `line` begins with `head`.
-fn starts(line: &[u8], head: &[u8]) -> bool
-    ensures { result ≡ begins head.now line.now }
-{
-    let mut i = 0;
-    while i < head.len() {
-        if line.len() <= i {
-            return false;
-        }
-        if line[i] != head[i] {
-            return false;
-        }
-        i = i + 1;
-    }
-    true
+pub struct Request {
+    pub kind: u8,
+    pub bits: u64,
 }
 
 // Writes `s` from `at` on, as much of it as there is room for.
+#[tactic(auto, using(digits::proofs::StoreLaws::sets_out, digits::proofs::StoreLaws::sets_part))]
 pub fn put_all(out: &mut [u8], at: usize, s: &[u8])
     ensures { out.new ≡ sets out.old at s.now }
 {
     if out.len() <= at {
         return;
     }
-    let room = out.len() - at;
-    let mut i = 0;
-    while i < s.len() {
-        if room <= i {
-            return;
-        }
-        out[at + i] = s[i];
-        i = i + 1;
-    }
+    let n = s.len().min(out.len() - at);
+    out[at..at + n].copy_from_slice(&s[..n]);
 }
 
 // What digits ask of a kind.
-fn ask_kind(kind: u8, digits: &[u8]) -> Asked
+fn ask_kind(kind: u8, digits: &[u8]) -> Option<Request>
     ensures { result ≡ asked_by kind digits.now }
 {
     if digits.len() != 2 * body(kind) {
-        return Asked::Bad;
+        return None;
     }
-    match hexadecimal::get(digits) {
-        Number::Is(bits) => Asked::Ask(kind, bits),
-        Number::None => Asked::Bad,
-    }
+    let bits = hexadecimal::get(digits)?;
+    Some(Request { kind, bits })
 }
 
-// What a line asks for as a line of that name.
-fn ask_as(n: Row, line: &[u8]) -> Asked
-    requires { n.length ≤ length n.head }
-    ensures { result ≡ asked_as (take n.length n.head) n.kind line.now }
+// What a line asks for as a line of that row.
+fn ask_as(row: Row, line: &[u8]) -> Option<Request>
+    ensures { result ≡ asked_as row.head.now row.kind line.now }
 {
-    let length = n.length;
-    let head = n.head;
-    if !starts(line, &head[..length]) {
-        return Asked::Bad;
-    }
-    ask_kind(n.kind, &line[length..])
+    let digits = line.strip_prefix(row.head)?;
+    ask_kind(row.kind, digits)
 }
 
-// What a line asks for, by the table of names.
-pub fn ask(line: &[u8]) -> Asked
+// What a line asks for, by the table of names; nothing where it is bad.
+pub fn ask(line: &[u8]) -> Option<Request>
     ensures { result ≡ asked names line.now }
 {
-    let mut i = 0;
-    while i < COUNT {
-        match ask_as(name(i), line) {
-            Asked::Ask(kind, bits) => {
-                return Asked::Ask(kind, bits);
-            }
-            Asked::Bad => {}
+    for row in rows() {
+        if let Some(request) = ask_as(*row, line) {
+            return Some(request);
         }
-        i = i + 1;
     }
-    Asked::Bad
+    None
 }

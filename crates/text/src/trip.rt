@@ -1,6 +1,6 @@
 // Text to the request stream and back, over lent buffers: a line a record. Reports and codes are the batch's; what is bad as a line stops the
 // one as an unknown kind, and a kind without a name the other.
-ghost use Rattle.std.specs.Prelude.{◌≡◌, ◌+◌, ◌*◌, ◌≤◌, ◌<◌, ◌++◌, length, take};
+ghost use Rattle.std.specs.Prelude.{◌≡◌, ◌+◌, ◌*◌, ◌≤◌, ◌<◌, ◌++◌, length};
 ghost use Rattle.std.proofs.lemmas.List.Edits.{sets};
 ghost use Rattle.records.specs.Did.{Did};
 ghost use Rattle.hexadecimal.specs.Hex.{hex};
@@ -9,8 +9,8 @@ ghost use Rattle.text.specs.Text.{closed};
 ghost use Rattle.text.specs.Trip.{record_of, first_line, to_request, forth, to_line, back};
 ghost use Rattle.text.specs.Steps.{request_lawful, line_lawful};
 
-use crate::names::{Row, name_of};
-use crate::{Asked, ask, put_all};
+use crate::names::name_of;
+use crate::{ask, put_all};
 use digits::get;
 use kinds::body;
 use records::{Code, Report, Step, run, stopped, took};
@@ -48,13 +48,13 @@ impl Step for Lines {
         }
         let end = line_end(text);
         match ask(&text[..end]) {
-            Asked::Bad => stopped(Code::Unknown),
-            Asked::Ask(kind, bits) => {
-                let n = 1 + body(kind);
+            None => stopped(Code::Unknown),
+            Some(request) => {
+                let n = 1 + body(request.kind);
                 if requests.len() < n {
                     return stopped(Code::Full);
                 }
-                put_record(requests, kind, bits);
+                put_record(requests, request.kind, request.bits);
                 if end < text.len() {
                     took(end + 1, n)
                 } else {
@@ -72,16 +72,14 @@ pub fn requests_of(text: &[u8], requests: &mut [u8]) -> Report
     run::<Lines>(text, requests)
 }
 
-// Writes the line of a row and bits at the front, with its newline, where there is room for it.
-fn put_line(text: &mut [u8], n: Row, width: usize, bits: u64)
-    requires { (n.length ≤ 10) × ((width ≤ 8) × (n.length + 2 * width < length text.old)) }
-    ensures { text.new ≡ sets text.old 0 (closed (take n.length n.head ++ hex (2 * width) bits)) }
+// Writes a line at the front: its head, the digits of the bits and its newline, where there is room for it.
+fn put_line(text: &mut [u8], head: &[u8], width: usize, bits: u64)
+    requires { (width ≤ 8) × (length head.now + 2 * width < length text.old) }
+    ensures { text.new ≡ sets text.old 0 (closed (head.now ++ hex (2 * width) bits)) }
 {
-    let letters = n.head;
-    let head = n.length;
-    put_all(text, 0, &letters[..head]);
-    hexadecimal::put(text, head, 2 * width, bits);
-    text[head + 2 * width] = b'\n';
+    put_all(text, 0, head);
+    hexadecimal::put(text, head.len(), 2 * width, bits);
+    text[head.len() + 2 * width] = b'\n';
 }
 
 // The records of a request stream, each to become a line.
@@ -97,19 +95,18 @@ impl Step for Records {
         let Some((&kind, rest)) = requests.split_first() else {
             return stopped(Code::Done);
         };
-        let n = name_of(kind);
-        if n.length == 0 {
+        let Some(head) = name_of(kind) else {
             return stopped(Code::Unknown);
-        }
+        };
         let width = body(kind);
         if rest.len() < width {
             return stopped(Code::Cut);
         }
-        let length = n.length + 2 * width + 1;
+        let length = head.len() + 2 * width + 1;
         if text.len() < length {
             return stopped(Code::Full);
         }
-        put_line(text, n, width, get(rest, 0, width));
+        put_line(text, head, width, get(rest, 0, width));
         took(1 + width, length)
     }
 }

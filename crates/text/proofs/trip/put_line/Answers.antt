@@ -1,11 +1,10 @@
 -- `text::trip::put_line` meets its contract: the head, the digits and the newline, one behind the other. Assumes nothing.
-use mathlib.Core.Path.{◌≡◌, sym}
+use mathlib.Core.Path.{◌≡◌, refl}
 use mathlib.Core.List.{List, [], ◌∷◌, ◌++◌}
 use Prim.Native.Nat.{ℕ, ◌+◌, ◌*◌}
 use native.Mathlib.Omega.{arith}
-use borrow.Author.Rules.{rules}
-use lib.ListN.{length, take, set, length-append}
-use lib.Seq.{sets, length-take-le}
+use lib.ListN.{length, set, length-append}
+use lib.Seq.{sets}
 use Rattle.digits.proofs.StoreLaws.{sets_append}
 use Rattle.hexadecimal.specs.Hex.{hex}
 use Rattle.hexadecimal.proofs.HexLaws.{length_hex}
@@ -20,22 +19,10 @@ three l m r x y a b ea eb em er =
     let n : a + b ≡ 0 + length (x ++ y) = omega (arith, length-append x y) in
     rw (both, n) (sets_append (x ++ y) (NEWLINE ∷ []) l 0)
 
-pub slice_bounds-letters-end : goal.slice_bounds-letters-end
-slice_bounds-letters-end c =
-    let l : length c.args.n.head ≡ 10 = search rules in
-    omega arith
-
-pub slice_bounds-put_all-end : goal.slice_bounds-put_all-end
-slice_bounds-put_all-end c =
-    let a = c.args in
-    let l : length a.n.head ≡ 10 = search rules in
-    sym (length-take-le a.n.length a.n.head (omega arith))
-
 pub returns : goal.returns
 returns c =
     let a = c.args in
     let p = c.put_all in
     let q = c.put in
-    let l : length a.n.head ≡ 10 = search rules in
-    three a.text.now p.new.out q.new.s (take a.n.length a.n.head) (hex (2 * a.width) a.bits) a.n.length (2 * a.width)
-    (length-take-le a.n.length a.n.head (omega arith)) (length_hex (2 * a.width) a.bits) p.ensures q.ensures
+    three a.text.now p.new.out q.new.s a.head.now (hex (2 * a.width) a.bits) (length a.head.now) (2 * a.width)
+    refl (length_hex (2 * a.width) a.bits) p.ensures q.ensures

@@ -15,10 +15,8 @@ use Rattle.records.specs.declared.Code.TheVariants.{Done, Unknown, Full}
 use Rattle.records.specs.declared.Report.{Report}
 use Rattle.records.proofs.StepLaws.{did_stop, did_took}
 use Rattle.text.specs.Names.{names}
-use Rattle.text.specs.Line.{asked}
+use Rattle.text.specs.Line.{asked, Asked, Bad, Ask}
 use Rattle.text.specs.Trip.{record_of, first_line, to_request}
-use Rattle.text.specs.declared.Asked.{Asked}
-use Rattle.text.specs.declared.Asked.TheVariants.{Bad, Ask}
 use Rattle.text.proofs.PlaceLaws.{first_take, first_in, length_record, as_full, as_whole, request_at}
 use Rattle.text.proofs.trip.LinesStep.step.Goals as goal
 
@@ -50,33 +48,33 @@ pub slice_bounds-ask-end : goal.slice_bounds-ask-end
 slice_bounds-ask-end c = sym (length-take-le c.line_end-end.result c.args.text.now (omega (arith, c.line_end-end.ensures, first_in c.args.text.now)))
 
 pub overflow_add-n : goal.overflow_add-n
-overflow_add-n c = record { fits = omega (arith, c.body-n.ensures, body_small c.in-Ask.kind) }
+overflow_add-n c = record { fits = omega (arith, c.body-n.ensures, body_small c.in-Some.request.kind) }
 
 pub returns-then-requests-n : goal.returns-then-requests-n
 returns-then-requests-n c =
     let s = c.args.text.now in
     let here : 0 < length s = search rules in
     let room = length c.args.requests.now in
-    let k = c.in-Ask.kind in
-    let b = c.in-Ask.bits in
+    let k = c.in-Some.request.kind in
+    let b = c.in-Some.request.bits in
     did_stop _ _ Full 0 c.args.requests.now c.stopped-then-requests-n.ensures
-    (request_at names s room (more s) (Ask k b) here refl (says s _ (Ask k b) c.line_end-end.ensures c.in-Ask.ensures)
+    (request_at names s room (more s) (Ask k b) here refl (says s _ (Ask k b) c.line_end-end.ensures c.in-Some.ensures)
     ∙ as_full (more s) room k b (omega (arith, c.body-n.ensures)))
 
-pub returns-in-Bad : goal.returns-in-Bad
-returns-in-Bad c =
+pub returns-in-None : goal.returns-in-None
+returns-in-None c =
     let s = c.args.text.now in
     let here : 0 < length s = search rules in
-    did_stop _ _ Unknown 0 c.args.requests.now c.stopped-in-Bad.ensures
-    (request_at names s (length c.args.requests.now) (more s) Bad here refl (says s _ Bad c.line_end-end.ensures c.in-Bad.ensures))
+    did_stop _ _ Unknown 0 c.args.requests.now c.stopped-in-None.ensures
+    (request_at names s (length c.args.requests.now) (more s) Bad here refl (says s _ Bad c.line_end-end.ensures c.in-None.ensures))
 
 pub returns-then-end-text : goal.returns-then-end-text
 returns-then-end-text c =
     let s = c.args.text.now in
     let here : 0 < length s = search rules in
-    let k = c.in-Ask.kind in
-    let b = c.in-Ask.bits in
-    taken s (length c.args.requests.now) k b here (says s _ (Ask k b) c.line_end-end.ensures c.in-Ask.ensures)
+    let k = c.in-Some.request.kind in
+    let b = c.in-Some.request.bits in
+    taken s (length c.args.requests.now) k b here (says s _ (Ask k b) c.line_end-end.ensures c.in-Some.ensures)
     _ _ (1 + c.body-n.result) c.args.requests.now c.put_record.new.requests (ap (1 +◌) c.body-n.ensures) (omega arith) c.took.ensures (omega (arith, c.line_end-end.ensures))
     c.put_record.ensures
 
@@ -84,8 +82,8 @@ pub returns-else-end-text : goal.returns-else-end-text
 returns-else-end-text c =
     let s = c.args.text.now in
     let here : 0 < length s = search rules in
-    let k = c.in-Ask.kind in
-    let b = c.in-Ask.bits in
-    taken s (length c.args.requests.now) k b here (says s _ (Ask k b) c.line_end-end.ensures c.in-Ask.ensures)
+    let k = c.in-Some.request.kind in
+    let b = c.in-Some.request.bits in
+    taken s (length c.args.requests.now) k b here (says s _ (Ask k b) c.line_end-end.ensures c.in-Some.ensures)
     _ _ (1 + c.body-n.result) c.args.requests.now c.put_record.new.requests (ap (1 +◌) c.body-n.ensures) (omega arith) c.took-else-end-text.ensures
     (omega (arith, c.line_end-end.ensures, first_in s)) c.put_record.ensures
