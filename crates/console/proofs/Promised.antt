@@ -8,8 +8,7 @@ use Rattle.kinds.specs.Kinds.{shape_of}
 use Rattle.replies.specs.Table.{table}
 use Rattle.replies.proofs.TableLaws.{row_width, reply_length}
 use Rattle.text.specs.Names.{names}
-use Rattle.text.specs.Line.{asked}
-use Rattle.text.specs.declared.Asked.TheVariants.{Ask}
+use Rattle.text.specs.Line.{asked, Ask}
 use Rattle.text.specs.Promises.{Shown}
 use Rattle.text.proofs.Promised.{same_answer}
 

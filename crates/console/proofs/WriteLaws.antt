@@ -13,10 +13,9 @@ use Rattle.records.specs.declared.Reply.{Reply}
 use Rattle.replies.specs.Table.{table, reply_s}
 use Rattle.replies.proofs.TableLaws.{row_width, reply_whole, value_short}
 use Rattle.text.specs.Names.{names}
-use Rattle.text.specs.Line.{SPACE, asked}
+use Rattle.text.specs.Line.{SPACE, asked, Bad, Ask}
 use Rattle.text.specs.Text.{NEWLINE, closed}
 use Rattle.text.specs.Reply.{BAD, sign_text, shown, reply_to}
-use Rattle.text.specs.declared.Asked.TheVariants.{Bad, Ask}
 use Rattle.text.proofs.LineLaws.{ask_small}
 use Rattle.text.proofs.ReplyLaws.{Narrow, reply_bad, reply_ask}
 use Rattle.console.specs.Post.{Wrote}

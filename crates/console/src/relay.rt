@@ -11,7 +11,7 @@ use records::Reply;
 use replies::reply_to;
 use session::to_front;
 use std::io::Stdout;
-use text::{Asked, ask, put_all};
+use text::{ask, put_all};
 
 // Of an unfinished line at most so many bytes are kept.
 const MOST: usize = 26;
@@ -62,13 +62,13 @@ fn put_reply(out: &mut [u8], at: usize, line: &[u8]) -> usize
     ensures { Wrote (closed (reply_to table line.now)) at result out.old out.new }
 {
     match ask(line) {
-        Asked::Bad => {
+        None => {
             put_all(out, at, b"bad\n");
             at + 4
         }
-        Asked::Ask(kind, bits) => {
+        Some(request) => {
             put_all(out, at, line);
-            put_answer(out, at + line.len(), reply_to(kind, bits))
+            put_answer(out, at + line.len(), reply_to(request.kind, request.bits))
         }
     }
 }

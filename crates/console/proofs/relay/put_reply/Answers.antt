@@ -13,18 +13,18 @@ use Rattle.console.proofs.relay.put_reply.Goals as goal
 
 pub put_answer-requires : goal.put_answer-requires
 put_answer-requires c = (
-  omega (arith, c.requires, (good_length c.args.line.now c.in-Ask.kind c.in-Ask.bits (sym c.in-Ask.ensures)).1),
+  omega (arith, c.requires, (good_length c.args.line.now c.in-Some.request.kind c.in-Some.request.bits (sym c.in-Some.ensures)).1),
   subst (λ (r : Reply). r.width ≤ 8) (sym c.reply_to.ensures) (reply_narrow _ _),
 )
 
-pub returns-in-Bad : goal.returns-in-Bad
-returns-in-Bad c = let a = c.args in bad_wrote a.line.now a.out.now c.put_all.new.out a.at _ (sym c.in-Bad.ensures) refl c.put_all.ensures
+pub returns-in-None : goal.returns-in-None
+returns-in-None c = let a = c.args in bad_wrote a.line.now a.out.now c.put_all.new.out a.at _ (sym c.in-None.ensures) refl c.put_all.ensures
 
-pub returns-in-Ask : goal.returns-in-Ask
-returns-in-Ask c =
+pub returns-in-Some : goal.returns-in-Some
+returns-in-Some c =
     let a = c.args in
     let w =
-    subst (λ (x : Reply). Wrote (closed (shown x)) (a.at + length a.line.now) c.put_answer.result c.put_all-in-Ask.new.out c.put_answer.new.out)
+    subst (λ (x : Reply). Wrote (closed (shown x)) (a.at + length a.line.now) c.put_answer.result c.put_all-in-Some.new.out c.put_answer.new.out)
     c.reply_to.ensures c.put_answer.ensures in
-    ask_wrote a.line.now a.out.now c.put_answer.new.out a.at c.put_answer.result c.in-Ask.kind c.in-Ask.bits (sym c.in-Ask.ensures)
-    c.put_all-in-Ask.new.out c.put_all-in-Ask.ensures w
+    ask_wrote a.line.now a.out.now c.put_answer.new.out a.at c.put_answer.result c.in-Some.request.kind c.in-Some.request.bits (sym c.in-Some.ensures)
+    c.put_all-in-Some.new.out c.put_all-in-Some.ensures w
