@@ -3,11 +3,10 @@ use Prim.Native.Nat.{ℕ, zero, suc, ◌+◌, ◌-◌, ◌*◌, ◌/◌, ◌%◌
 use mathlib.Core.Path.{◌≡◌, refl, ap, ◌∙◌, subst}
 use native.Mathlib.Omega.{arith}
 use lib.IntN.{ℤ, pos, neg_ℤ}
-use lib.Ieee.{Float, binary64}
+use lib.Ieee.{Float}
 use borrow.Author.Tests.{le-leb, lt-leb, lt-ltb, le-ltb}
 use Rattle.words.specs.F64.{◌⊖◌, ◌⊗◌, bits}
 use Rattle.words.specs.Bits.{high_word_s, with_high_word_s}
-use Rattle.scalbn.specs.Scalbn.{scalbn_s}
 use Rattle.pow_exp.specs.Exp2.{word, fraction_s, scaled_s, exp2_s}
 use Rattle.pow_exp.proofs.Half.{half, field}
 
@@ -17,14 +16,6 @@ negative_word zero h = omega arith
 negative_word (suc n) h = refl
 
 module _ (z : Float) (n : ℤ) (j : ℕ) (r : Float) (is : j ≡ (high_word_s z + word n * 2 ^ 20) % 2 ^ 32) where
-  pub under : j < 2 ^ 20 → r ≡ scalbn_s binary64 z n → r ≡ scaled_s z n
-  unfolding scaled_s
-  under h q = simp (lt-ltb _ _ (subst (λ (k : ℕ). k < 2 ^ 20) is h)) q
-
-  pub over : 2 ^ 20 ≤ j → 2 ^ 31 ≤ j → r ≡ scalbn_s binary64 z n → r ≡ scaled_s z n
-  unfolding scaled_s
-  over g h q = simp (le-ltb _ _ (subst (λ (k : ℕ). 2 ^ 20 ≤ k) is g), le-leb _ _ (subst (λ (k : ℕ). 2 ^ 31 ≤ k) is h)) q
-
   pub within : 2 ^ 20 ≤ j → j < 2 ^ 31 → r ≡ with_high_word_s z j → r ≡ scaled_s z n
   unfolding scaled_s
   within g h q =

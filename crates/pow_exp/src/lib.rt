@@ -33,6 +33,7 @@ const LG2_L: f64 = -1.90465429995776804525e-09; /* 0xbe205c61_0ca86c39 */
 const OVT: f64 = 8.0085662595372944372e-017; /* -(1024-log2(ovfl+.5ulp)) */
 
 // 2^(p_h + p_l), for a small p_h + p_l.
+#[tactic(auto, unfolding(crate::specs::Exp2::fraction_s))]
 fn fraction(p_h: f64, p_l: f64) -> f64
     ensures { result ≡ fraction_s p_h p_l }
 {
@@ -48,16 +49,14 @@ fn fraction(p_h: f64, p_l: f64) -> f64
 }
 
 // z times 2^n, where w is the word of n.
+#[tactic(auto, unfolding(crate::specs::Exp2::scaled_s))]
 fn scaled(z: f64, n: i32, w: u32) -> f64
     requires { w ≡ word n }
     ensures { result ≡ scaled_s z n }
 {
     // j += n << 20
     let j = ((get_high_word(z) as u64 + w as u64 * 0x10_0000) % 0x1_0000_0000) as u32;
-    if j < 0x10_0000 {
-        return scalbn(z, n);
-    }
-    if j >= 0x8000_0000 {
+    if j < 0x10_0000 || j >= 0x8000_0000 {
         return scalbn(z, n);
     }
     with_set_high_word(z, j)
@@ -84,37 +83,28 @@ fn exp2(s: f64, p_h: f64, p_l: f64, j: u32) -> f64
 }
 
 // z >= 1024
+#[tactic(auto, unfolding(crate::specs::Exp2::large_s))]
 fn large(s: f64, p_h: f64, p_l: f64, z: f64, j: u32, i: u32) -> f64
     ensures { result ≡ large_s s p_h p_l z j i }
 {
-    if j != 0x4090_0000 {
-        return s * HUGE * HUGE;
-    }
-    if i != 0 {
-        return s * HUGE * HUGE;
-    }
-    if p_l + OVT > z - p_h {
+    if j != 0x4090_0000 || i != 0 || p_l + OVT > z - p_h {
         return s * HUGE * HUGE;
     }
     exp2(s, p_h, p_l, j)
 }
 
 // z <= -1075
+#[tactic(auto, unfolding(crate::specs::Exp2::small_s))]
 fn small(s: f64, p_h: f64, p_l: f64, z: f64, j: u32, i: u32) -> f64
     ensures { result ≡ small_s s p_h p_l z j i }
 {
-    if j != 0xc090_cc00 {
-        return s * TINY * TINY;
-    }
-    if i != 0 {
-        return s * TINY * TINY;
-    }
-    if p_l <= z - p_h {
+    if j != 0xc090_cc00 || i != 0 || p_l <= z - p_h {
         return s * TINY * TINY;
     }
     exp2(s, p_h, p_l, j)
 }
 
+#[tactic(auto, unfolding(crate::specs::Exp2::bounded_s))]
 fn bounded(s: f64, p_h: f64, p_l: f64, z: f64, j: u32, i: u32) -> f64
     ensures { result ≡ bounded_s s p_h p_l z j i }
 {
@@ -131,6 +121,7 @@ fn bounded(s: f64, p_h: f64, p_l: f64, z: f64, j: u32, i: u32) -> f64
 }
 
 // s * 2^(y * (t1 + t2))
+#[tactic(auto, unfolding(crate::specs::Exp2::product_s))]
 pub fn product(s: f64, y: f64, t: Parts) -> f64
     ensures { result ≡ product_s s y t }
 {

@@ -47,6 +47,7 @@ const IVLN2_H: f64 = 1.44269502162933349609e+00; /* 0x3ff71547_60000000 =24b 1/l
 const IVLN2_L: f64 = 1.92596299112661746887e-08; /* 0x3e54ae0b_f85ddf44 =1/ln2 tail*/
 
 // |1-x| is at most 2^-20.
+#[tactic(auto, unfolding(crate::specs::Log2::near_one_s))]
 pub fn near_one(ax: f64) -> Parts
     ensures { result ≡ near_one_s ax }
 {
@@ -56,11 +57,12 @@ pub fn near_one(ax: f64) -> Parts
     let v = t * IVLN2_L - w * IVLN2;
     let t1 = clear_low_word(u + v);
     Parts {
-        t1: t1,
+        t1,
         t2: v - (t1 - u),
     }
 }
 
+#[tactic(auto, unfolding(crate::specs::Log2::series_s))]
 fn series(ax: f64, bp: f64, t_h: f64, dp_h: f64, dp_l: f64, t: f64) -> Parts
     ensures { result ≡ series_s ax bp t_h dp_h dp_l t }
 {
@@ -86,12 +88,13 @@ fn series(ax: f64, bp: f64, t_h: f64, dp_h: f64, dp_l: f64, t: f64) -> Parts
     let z_l = CP_L * p_h + p_l * CP + dp_l;
     let t1 = clear_low_word(((z_h + z_l) + dp_h) + t);
     Parts {
-        t1: t1,
+        t1,
         t2: z_l - (((t1 - t) - dp_h) - z_h),
     }
 }
 
 // e - bias.
+#[tactic(auto, using(crate::proofs::Integers::fits_difference, crate::proofs::Integers::held_difference))]
 fn exponent(e: u32, bias: u32) -> i32
     requires { (e ≤ 0x1000) × (bias ≤ 0x1000) }
     ensures { result ≡ pos e -ℤ pos bias }
@@ -107,6 +110,7 @@ fn at(k: u32, a: f64, b: f64) -> f64
 }
 
 // ax is near 1, between sqrt(3)/2 and sqrt(3/2), for a k of 0; for one of 1 near 1.5, between sqrt(3/2) and sqrt(3).
+#[tactic(auto, unfolding(crate::specs::Log2::interval_s))]
 fn interval(ax: f64, ix: u32, k: u32, n: i32) -> Parts
     requires { k ≤ 1 }
     ensures { result ≡ interval_s ax ix k n }
@@ -130,6 +134,7 @@ struct Place {
     e: u32,
 }
 
+#[tactic(auto, using(crate::proofs::Integers::through, crate::proofs::Integers::one_more), unfolding(crate::specs::Log2::normal_s))]
 fn find(ix: u32) -> Place
     ensures bias_value { (ax : Float) (bias : ℕ) → interval_s ax result.ix result.k (pos result.e -ℤ pos bias) ≡ normal_s ax ix (pos 0x3FF -ℤ pos bias) }
     ensures k_bound { (result.k ≤ 1) × (result.e ≤ 0x1000) }
@@ -175,6 +180,7 @@ struct Scaled {
 }
 
 // Of a subnormal number ax * 2^53. That is settled before `normal` is called, so that `normal` is called once.
+#[tactic(auto, unfolding(crate::specs::Log2::log2_s))]
 fn normalised(ax: f64, ix: u32) -> Scaled
     ensures bias_value { normal_s result.ax result.ix (pos 0x3FF -ℤ pos result.bias) ≡ log2_s ax ix }
     ensures le_bias { (0x3FF ≤ result.bias) × (result.bias ≤ 0x434) }
