@@ -15,6 +15,7 @@ use decide::{Next, after, at_end};
 use records::Code;
 use relay::answer;
 use session::port::{large_buffer, read};
+use session::turns::Turns;
 use std::io::{Stdin, Stdout};
 
 // One turn: reads once behind the `have` bytes that are there, answers the lines, and says what comes next. Its code is 0: no line stops the
@@ -29,21 +30,35 @@ fn pass(mut input: Stdin, output: Stdout, buf: &mut [u8], have: usize, replies: 
     after(got, Code::Done.into(), t.kept, t.sent)
 }
 
-// All turns, and 0 at the end of the input, or nothing where the input or the output failed. Nothing says that the input ends, so the turns are
-// counted, up to a number that no run reaches.
-fn turns(input: Stdin, output: Stdout, buf: &mut [u8], replies: &mut [u8]) -> Option<u8>
-    requires { (KEPT < length buf.old) × ((4 * length buf.old ≤ length replies.old) × (length replies.old ≤ 65536)) }
-    ensures { Ran (typing table) (length buf.old) result }
-{
-    let mut have = 0;
-    for _ in 0..u64::MAX {
-        match pass(input, output, buf, have, replies) {
-            Next::Go(kept) => have = kept,
-            Next::Close(code) => return Some(code),
-            Next::Break => return None,
-        }
+// The program between two turns: of the bytes in `buf` it carries over the first `have`, of an unfinished line.
+#[derive(Drop)]
+struct Replying<'a> {
+    input: Stdin,
+    output: Stdout,
+    buf: &'a mut [u8],
+    have: usize,
+    replies: &'a mut [u8],
+    ghost carried: { have ≤ KEPT },
+    ghost to_read: { KEPT < length buf.now },
+    ghost to_reply: { 4 * length buf.now ≤ length replies.now },
+    ghost replies_bound: { length replies.now ≤ 65536 },
+}
+
+impl Turns for Replying<'_> {
+    ghost program = { λ _. typing table };
+
+    ghost size = { λ s. length s.buf.now };
+
+    ghost carried = { λ s. take s.have s.buf.now };
+
+    fn turn(&mut self) -> Next {
+        let next = pass(self.input, self.output, self.buf, self.have, self.replies);
+        let Next::Go(kept) = next else {
+            return next;
+        };
+        self.have = kept;
+        next
     }
-    None
 }
 
 // All of it, from an input to an output. Gives back 0 at the end of the input, or nothing where the input or the output failed.
@@ -52,5 +67,12 @@ pub fn run(input: Stdin, output: Stdout) -> Option<u8>
 {
     let mut buf = [0u8; 16384];
     let mut replies = large_buffer();
-    turns(input, output, &mut buf, &mut replies)
+    let mut turns = Replying {
+        input,
+        output,
+        buf: &mut buf,
+        have: 0,
+        replies: &mut replies,
+    };
+    turns.run()
 }

@@ -6,13 +6,14 @@ mod port;
 mod relay;
 
 ghost use Rattle.std.specs.Prelude.{◌*◌, ◌≤◌, ◌<◌, length, take};
-ghost use Rattle.session.specs.Post.{Passed, Ran, Served};
+ghost use Rattle.session.specs.Post.{Passed, Served};
 ghost use Rattle.serve.specs.Session.{answering};
 
 use decide::{Next, after, closing, end};
 use port::close;
 use relay::answer;
 use session::port::{large_buffer, read};
+use session::turns::Turns;
 use std::io::{Stdin, Stdout};
 
 // One turn: reads once behind the `have` bytes that are there, answers them all, and says what comes next. A read into no room would look like
@@ -27,20 +28,34 @@ fn pass(mut input: Stdin, output: Stdout, buf: &mut [u8], have: usize, answers: 
     after(got, t.code.into(), t.kept, t.sent)
 }
 
-// All turns, and the stop code, if there is one. Nothing says that the input ends, so the turns are counted, up to a number that no run reaches.
-fn turns(input: Stdin, output: Stdout, buf: &mut [u8], answers: &mut [u8]) -> Option<u8>
-    requires { (8 < length buf.old) × (2 * length buf.old ≤ length answers.old) }
-    ensures { Ran (answering (length answers.old)) (length buf.old) result }
-{
-    let mut have = 0;
-    for _ in 0..u64::MAX {
-        match pass(input, output, buf, have, answers) {
-            Next::Go(kept) => have = kept,
-            Next::Close(code) => return Some(code),
-            Next::Break => return None,
-        }
+// The program between two turns: of the bytes in `buf` it carries over the first `have`, fewer than a record has.
+#[derive(Drop)]
+struct Answering<'a> {
+    input: Stdin,
+    output: Stdout,
+    buf: &'a mut [u8],
+    have: usize,
+    answers: &'a mut [u8],
+    ghost carried: { have ≤ 8 },
+    ghost to_read: { 8 < length buf.now },
+    ghost to_answer: { 2 * length buf.now ≤ length answers.now },
+}
+
+impl Turns for Answering<'_> {
+    ghost program = { λ s. answering (length s.answers.now) };
+
+    ghost size = { λ s. length s.buf.now };
+
+    ghost carried = { λ s. take s.have s.buf.now };
+
+    fn turn(&mut self) -> Next {
+        let next = pass(self.input, self.output, self.buf, self.have, self.answers);
+        let Next::Go(kept) = next else {
+            return next;
+        };
+        self.have = kept;
+        next
     }
-    None
 }
 
 // All of it, from an input to an output. Gives back the stop code that it wrote, or none where it wrote none.
@@ -49,7 +64,14 @@ pub fn run(input: Stdin, output: Stdout) -> Option<u8>
 {
     let mut buf = [0u8; 32768];
     let mut answers = large_buffer();
-    let code = turns(input, output, &mut buf, &mut answers);
+    let mut turns = Answering {
+        input,
+        output,
+        buf: &mut buf,
+        have: 0,
+        answers: &mut answers,
+    };
+    let code = turns.run();
     let bytes = closing(code)?;
     let sent = close(output, code, &bytes);
     end(code, sent)

@@ -11,7 +11,7 @@ use Rattle.decide.specs.declared.Next.{Next}
 use Rattle.decide.specs.declared.Next.TheVariants.{Go, Close, Break}
 use Rattle.decide.proofs.DecideLaws.{when_go}
 use Rattle.session.specs.Session.{Event, returned, Turn, Program, turn_of, says, session, StopsOr, Stops, Fits}
-use Rattle.session.specs.Post.{Passed, Ran}
+use Rattle.session.specs.Post.{Passed, Took, Ran}
 
 -- Where the loop stands, after so many turns and with the carried bytes in rest.
 pub record Going (P : Program) (size turns : ℕ) (rest : List ℕ) : Type 0 where
@@ -82,3 +82,19 @@ module _ (P : Program) (size : ℕ) where
           fits = λ later f. subst (Fits P size []) (sym (so later)) (inside later f);
           code = λ later. ap (λ (y : List Event). (session P [] y).code) (so later) ∙ turn (Go kept) e later;
         })
+
+-- A turn of a value that has turns, where the program and the room are those that the loop began with.
+module _ (P Q : Program) (size room turns : ℕ) (rest later : List ℕ) (x : Next) (ep : Q ≡ P) (es : room ≡ size) (g : Going P size turns rest)
+    (t : Took Q room rest x later) where
+  same : Took P size rest x later
+  same = subst (λ (y : Program). Took y size rest x later) ep (subst (λ (n : ℕ). Took Q n rest x later) es t)
+
+  pub took_on : (kept : ℕ) → x ≡ Go kept → Going P size (turns + 1) later
+  took_on kept e =
+      subst (Going P size (turns + 1)) (sym (same.carried kept e)) (going_on P size turns rest g x same.buffer same.passed kept e)
+
+  pub took_close : (code : ℕ) → x ≡ Close code → Ran P size (Some code)
+  took_close = going_close P size turns rest g x same.buffer same.passed
+
+  pub took_break : x ≡ Break → Ran P size None
+  took_break = going_break P size turns rest g x same.buffer same.passed

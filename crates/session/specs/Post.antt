@@ -3,6 +3,7 @@
 use Rattle.std.specs.Prelude.{◌≡◌, Bool, List, [], ◌⊎◌, ℕ, ◌+◌, ◌-◌, ◌^◌, ◌≤◌, length, take, Option}
 use Rattle.decide.specs.Decide.{end_s}
 use Rattle.decide.specs.declared.Next.{Next}
+use Rattle.decide.specs.declared.Next.TheVariants.{Go}
 use Rattle.session.specs.Session.{Event, piece, Program, turn_of, next_of, session, Stops, Fits}
 
 -- one turn, with the bytes carried over in rest; b is the buffer that carries afterwards
@@ -11,6 +12,12 @@ pub record Passed (P : Program) (size : ℕ) (rest : List ℕ) (r : Next) (b : L
   pub fits : length rest + length (piece event.heard) ≤ size
   pub next : r ≡ next_of P rest event
   pub carried : take (length (turn_of P rest event).left) b ≡ (turn_of P rest event).left
+
+-- one turn, after which, where it goes on, so many bytes are carried over
+pub record Took (P : Program) (size : ℕ) (rest : List ℕ) (r : Next) (later : List ℕ) : Type 0 where
+  pub buffer : List ℕ
+  pub passed : Passed P size rest r buffer
+  pub carried : (kept : ℕ) → r ≡ Go kept → later ≡ take kept buffer
 
 -- it goes on until it is told to stop: only after 2 ^ 64 - 1 turns it ends by itself
 abbrev pub Full : Program → List Event → Type 0

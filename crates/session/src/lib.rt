@@ -3,6 +3,7 @@
 #![tactic(auto)]
 
 pub mod port;
+pub mod turns;
 
 ghost use Rattle.std.specs.Prelude.{◌≡◌, take, drop};
 ghost use Rattle.std.proofs.lemmas.List.Edits.{sets};
