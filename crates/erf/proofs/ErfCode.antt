@@ -1,11 +1,11 @@
 -- What each return of erf and erfc, and of the functions that they are made of, gives, over their plan. Assumes nothing.
 use Prim.Native.Nat.{ℕ, ◌<◌, ◌≤◌}
-use mathlib.Core.Path.{◌≡◌, ap, ◌∙◌}
+use mathlib.Core.Path.{◌≡◌, refl}
 use mathlib.Core.Logic.{◌⊎◌, inl, inr}
-use mathlib.Core.Bool.{Bool, true, false, not, ◌||◌}
+use mathlib.Core.Bool.{true, false, not, ◌||◌}
 use lib.IntN.{pos}
 use lib.Dec.{ltb, eqb}
-use lib.Ieee.{Float, nan, Format, neg, of_int, add, sub, mul, div}
+use lib.Ieee.{Float, nan, inf, fin, Format, neg, of_int, add, sub, mul, div}
 use borrow.Author.Tests.{le-leb, lt-leb, lt-ltb, le-ltb, eq-eqb, ne_eqb}
 use Rattle.words.specs.Pick.{pick}
 use Rattle.words.specs.Bits.{sign_s}
@@ -41,20 +41,16 @@ module _ (p : Plan) where
     unfolding erfc2_s
     erfc2_far h ea ez eA eq eB = simp (le-ltb ix p.at1·25 h) (rw (eB, eq, eA, ez, ea))
 
-  -- of a NaN, where exp, erfc1 and z keep it
-  module _ (e : p.exp nan ≡ nan) (n : erfc1_s p nan ≡ nan) (z : short_s p nan ≡ nan) where
-    first_exp : p.exp (sub f (mul f (neg (short_s p nan)) (short_s p nan)) p.0·5625) ≡ nan
-    unfolding neg sub add mul
-    first_exp = ap (λ (v : Float). p.exp (sub f (mul f (neg v) v) p.0·5625)) z ∙ e
+  -- past erfc1 a NaN is kept, by the last quotient
+  over_nan : (a : Float) → div f a nan ≡ nan
+  unfolding div
+  over_nan nan = refl
+  over_nan (inf s) = refl
+  over_nan (fin s m e) = refl
 
-    pub erfc2_nan : (ix : ℕ) → erfc2_s p ix nan ≡ nan
-    unfolding erfc2_s fabs_s mul div
-    erfc2_nan ix = go (ltb ix p.at1·25) _
-      where
-        go : (b : Bool) (B : Float)
-            → pick b (erfc1_s p nan) (div f (mul f (p.exp (sub f (mul f (neg (short_s p nan)) (short_s p nan)) p.0·5625)) B) nan) ≡ nan
-        go true B = n
-        go false B = ap (λ (A : Float). div f (mul f A B) nan) first_exp
+  pub erfc2_nan : {ix : ℕ} → p.at1·25 ≤ ix → erfc2_s p ix nan ≡ nan
+  unfolding erfc2_s fabs_s
+  erfc2_nan {ix} h = simp (le-ltb ix p.at1·25 h, over_nan)
 
   -- ---- erf and erfc
   -- erfc's test at 1/4, where the sign counts

@@ -1,42 +1,21 @@
-// erf and erfc, after FreeBSD's msun, by |x|: erf(-x) = -erf(x) and erfc(-x) = 2 - erfc(x). The errors are those that msun gives.
-// Below 0.84375: erf(x) = x + x R, R = PP/QQ in x^2 (2^-57.90). erfc(x) = 1 - erf(x), or 0.5 - (x - 0.5 + x R) from 1/4 on. Below 2^-28 erf is
-// 2/sqrt(pi) x, so written that nothing underflows; below 2^-56 erfc is 1 - x.
-// Below 1.25: erf(x) = ERX + PA/QA in |x| - 1 (2^-59.06), where ERX, near erf(1), has 24 bits.
-// Below 28: erfc(x) = exp(-x^2 - 0.5625 + R/S) / x, R/S in 1/x^2: RA/SA below 1/0.35 (2^-62.57), then RB/SB (2^-61.52). -x^2 is
-// -z^2 + (z - x) (z + x), where z is x with a cleared low word, so that z^2 is exact. erf = 1 - erfc, and from 6 on 1 - 2^-1022.
-// From 28 on erfc is 2^-1022 times itself, or 2 - 2^-1022 for a negative x.
-// Both are made of one y: `small` (R above) below 0.84375, and `erfc2` from there on. Who asks for both pays for it once.
+// erf and erfc, after FreeBSD's msun, by |x|: erf(-x) = -erf(x) and erfc(-x) = 2 - erfc(x). The errors are those that msun gives: 2^-57.90 of PP/QQ,
+// 2^-59.06 of PA/QA, 2^-62.57 of RA/SA and 2^-61.52 of RB/SB. ERX, near erf(1), has 24 bits. z loses its low word, and the tiny number is 2^-1022.
+// Module `course` is the text of both widths; in f32: crate erff.
 // A list of coefficients is PP0, PP1, .. of the Rust; QQ, QA, SA and SB begin with their 1.0.
 #![tactic(auto)]
 
-ghost use Rattle.std.specs.Prelude.{◌≡◌, if◌then◌else◌};
-ghost use Rattle.std.specs.Float.{binary64};
-ghost use Rattle.std.specs.Float.Ieee.{neg};
-ghost use Rattle.words.specs.Tests.{◌≠?◌};
-ghost use Rattle.words.specs.Bits.{sign_s, size_word_s};
-ghost use Rattle.erf.specs.Plan.{erfc1_s, ratio_s, short_s, erfc2_s, small_s};
-ghost use Rattle.erf.specs.Erf64.{erf64, erf_s, erfc_s};
-ghost use Rattle.erf.specs.Shared.{Made};
+pub mod course;
+pub mod width;
 
-use exp::exp;
-use poly::horner;
-use words::bits::{clear_low_word, sign, size_word};
-use words::fabs::fabs;
+ghost use Rattle.std.specs.Prelude.{◌≡◌};
+ghost use Rattle.erf.specs.Erf64.{erf_s, erfc_s};
+
+use course::Constants;
+use words::bits::{sign, size_word};
 
 const ERX: f64 = 8.45062911510467529297e-01; /* 0x3FEB0AC1, 0x60000000 */
 
 const EFX8: f64 = 1.02703333676410069053e+00; /* 0x3FF06EBA, 0x8214DB69 */
-
-// Cuts, as words of a size. erf needs y from 2^-28 on and below 6, erfc from 2^-56 on and below 28.
-const AT_0_84375: u32 = 0x3feb0000;
-
-const ERF_FROM: u32 = 0x3e300000;
-
-const ERF_UPTO: u32 = 0x40180000;
-
-const ERFC_FROM: u32 = 0x3c700000;
-
-const ERFC_UPTO: u32 = 0x403c0000;
 
 // Coefficients for approximation to erf on [0,0.84375].
 const PP: [f64; 5] = [
@@ -123,153 +102,41 @@ const SB: [f64; 8] = [
     -2.24409524465858183362e+01, /* 0xC03670E2, 0x42712D62 */
 ];
 
-fn erfc1(x: f64) -> f64
-    ensures { result ≡ erfc1_s erf64 x }
-{
-    let s = fabs(x) - 1.0;
-    let p = horner(&PA, s);
-    let q = horner(&QA, s);
-    1.0 - ERX - p / q
-}
-
-// r / big_s.
-fn ratio(ix: u32, s: f64) -> f64
-    ensures { result ≡ ratio_s erf64 ix s }
-{
-    if ix < 0x4006db6d {
-        return horner(&RA, s) / horner(&SA, s);
-    }
-    horner(&RB, s) / horner(&SB, s)
-}
-
-// x with its low word cleared.
-fn short(x: f64) -> f64
-    ensures { result ≡ short_s erf64 x }
-{
-    clear_low_word(x)
-}
-
-fn erfc2(ix: u32, x: f64) -> f64
-    ensures { result ≡ erfc2_s erf64 ix x }
-{
-    // a NaN leaves first: no later look at the bits of x has to allow for one
-    if x != x {
-        return x;
-    }
-    if ix < 0x3ff40000 {
-        return erfc1(x);
-    }
-    let a = fabs(x);
-    let s = 1.0 / (a * a);
-    let z = short(a);
-    // here, so that it does not stand between the two exponentials
-    let q = ratio(ix, s);
-    exp(-z * z - 0.5625) * exp((z - a) * (z + a) + q) / a
-}
-
-// y below 0.84375.
-fn small(x: f64) -> f64
-    ensures { result ≡ small_s erf64 x }
-{
-    let z = x * x;
-    horner(&PP, z) / horner(&QQ, z)
-}
-
-// y with the sign of x.
-fn signed(sign: u32, y: f64) -> f64
-    ensures { result ≡ (if sign ≠? 0 then neg y else y) }
-{
-    if sign != 0 { -y } else { y }
-}
+// The constants and cuts of f64.
+pub static ERF64: Constants<f64> = Constants {
+    not_finite: 0x7ff00000,
+    at_0_84375: 0x3feb0000,
+    erf_from: 0x3e300000,
+    erfc_from: 0x3c700000,
+    at_1_4: 0x3fd00000,
+    at_1_25: 0x3ff40000,
+    at_1_0_35: 0x4006db6d,
+    erf_upto: 0x40180000,
+    erfc_upto: 0x403c0000,
+    eighth: 0.125,
+    half: 0.5,
+    nine_sixteenths: 0.5625,
+    one: 1.0,
+    two: 2.0,
+    eight: 8.0,
+    tiny: f64::from_bits(0x0010000000000000),
+    erx: ERX,
+    efx8: EFX8,
+    pp: &PP,
+    qq: &QQ,
+    pa: &PA,
+    qa: &QA,
+    ra: &RA,
+    sa: &SA,
+    rb: &RB,
+    sb: &SB,
+};
 
 // erf and erfc of one number.
 #[derive(Clone, Copy)]
 pub struct Pair {
     pub erf: f64,
     pub erfc: f64,
-}
-
-// y as far as erf needs it. Elsewhere nobody looks at it, and x serves.
-fn y_of_erf(ix: u32, x: f64) -> f64
-    ensures { Made erf64 erf64.at2^-28 erf64.at6 ix x result }
-{
-    if ix < AT_0_84375 {
-        if ix < ERF_FROM {
-            return x;
-        }
-        return small(x);
-    }
-    if ix < ERF_UPTO {
-        return erfc2(ix, x);
-    }
-    x
-}
-
-// y as far as erfc needs it, which is farther both ways.
-fn y_of_erfc(ix: u32, x: f64) -> f64
-    ensures { Made erf64 erf64.at2^-56 erf64.at28 ix x result }
-{
-    if ix < AT_0_84375 {
-        if ix < ERFC_FROM {
-            return x;
-        }
-        return small(x);
-    }
-    if ix < ERFC_UPTO {
-        return erfc2(ix, x);
-    }
-    x
-}
-
-// erf, from y.
-fn erf_of(ix: u32, sign: u32, x: f64, y: f64) -> f64
-    requires { (ix ≡ size_word_s x) × (sign ≡ sign_s binary64 x) × Made erf64 erf64.at2^-28 erf64.at6 ix x y }
-    ensures { result ≡ erf_s x }
-{
-    if ix >= 0x7ff00000 {
-        return 1.0 - 2.0 * (sign as f64) + 1.0 / x;
-    }
-    if ix < AT_0_84375 {
-        if ix < ERF_FROM {
-            return 0.125 * (8.0 * x + EFX8 * x);
-        }
-        return x + x * y;
-    }
-    if ix < ERF_UPTO {
-        return signed(sign, 1.0 - y);
-    }
-    let x1p_1022 = f64::from_bits(0x0010000000000000);
-    signed(sign, 1.0 - x1p_1022)
-}
-
-// erfc, from y.
-fn erfc_of(ix: u32, sign: u32, x: f64, y: f64) -> f64
-    requires { (ix ≡ size_word_s x) × (sign ≡ sign_s binary64 x) × Made erf64 erf64.at2^-56 erf64.at28 ix x y }
-    ensures { result ≡ erfc_s x }
-{
-    if ix >= 0x7ff00000 {
-        return 2.0 * (sign as f64) + 1.0 / x;
-    }
-    if ix < AT_0_84375 {
-        if ix < ERFC_FROM {
-            return 1.0 - x;
-        }
-        if sign != 0 || ix < 0x3fd00000 {
-            return 1.0 - (x + x * y);
-        }
-        return 0.5 - (x - 0.5 + x * y);
-    }
-    if ix < ERFC_UPTO {
-        if sign != 0 {
-            return 2.0 - y;
-        }
-        return y;
-    }
-    let x1p_1022 = f64::from_bits(0x0010000000000000);
-    if sign != 0 {
-        return 2.0 - x1p_1022;
-    }
-    x1p_1022 * x1p_1022
 }
 
 pub fn erf_erfc(x: f64) -> Pair
@@ -281,31 +148,28 @@ pub fn erf_erfc(x: f64) -> Pair
     }
     let ix = size_word(x);
     let sign = sign(x);
-    let y = y_of_erfc(ix, x);
+    let y = ERF64.y_of_erfc(ix, x);
     Pair {
-        erf: erf_of(ix, sign, x, y),
-        erfc: erfc_of(ix, sign, x, y),
+        erf: ERF64.erf_of(ix, sign, x, y),
+        erfc: ERF64.erfc_of(ix, sign, x, y),
     }
 }
 
-// erf alone, with no more of y than it needs.
 pub fn erf(x: f64) -> f64
     ensures { result ≡ erf_s x }
 {
+    // a NaN leaves first: no later look at the bits of x has to allow for one
     if x != x {
         return x;
     }
-    let ix = size_word(x);
-    erf_of(ix, sign(x), x, y_of_erf(ix, x))
+    ERF64.erf(x)
 }
 
-// erfc alone.
 pub fn erfc(x: f64) -> f64
     ensures { result ≡ erfc_s x }
 {
     if x != x {
         return x;
     }
-    let ix = size_word(x);
-    erfc_of(ix, sign(x), x, y_of_erfc(ix, x))
+    ERF64.erfc(x)
 }

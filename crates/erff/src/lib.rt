@@ -1,18 +1,12 @@
-// erff and erfcf: the course of erf and erfc in f32, with the same regions; the coefficients are erf's, rounded to f32. z loses 13 bits, and the
-// tiny number is 2^-120.
+// erff and erfcf: erf's course in f32, with the same regions; the coefficients are erf's, rounded to f32. z loses 13 bits, and the tiny number
+// is 2^-120.
 // A list of coefficients is PP0, PP1, .. of the Rust; QQ, QA, SA and SB begin with their 1.0.
 #![tactic(auto)]
 
-ghost use Rattle.std.specs.Prelude.{◌≡◌, if◌then◌else◌};
-ghost use Rattle.std.specs.Float.Ieee.{neg};
-ghost use Rattle.words.specs.Tests.{◌≠?◌};
-ghost use Rattle.erf.specs.Plan.{erfc1_s, ratio_s, short_s, erfc2_s, small_s};
-ghost use Rattle.erff.specs.Erff.{erf32, erff_s, erfcf_s};
+ghost use Rattle.std.specs.Prelude.{◌≡◌};
+ghost use Rattle.erff.specs.Erff.{erff_s, erfcf_s};
 
-use exp::single::expf;
-use poly::horner;
-use words::bits::{sign, size_word};
-use words::fabs::fabs;
+use erf::course::Constants;
 
 const ERX: f32 = 8.4506291151e-01; /* 0x3f58560b */
 
@@ -103,67 +97,35 @@ const SB: [f32; 8] = [
     -2.2440952301e+01, /* 0xc1b38712 */
 ];
 
-fn erfc1(x: f32) -> f32
-    ensures { result ≡ erfc1_s erf32 x }
-{
-    let s = fabs(x) - 1.0;
-    let p = horner(&PA, s);
-    let q = horner(&QA, s);
-    1.0 - ERX - p / q
-}
-
-// r / big_s.
-fn ratio(ix: u32, s: f32) -> f32
-    ensures { result ≡ ratio_s erf32 ix s }
-{
-    if ix < 0x4036db6d {
-        return horner(&RA, s) / horner(&SA, s);
-    }
-    horner(&RB, s) / horner(&SB, s)
-}
-
-// x with its 13 low bits cleared, the Rust's mask 0xffffe000.
-fn short(x: f32) -> f32
-    ensures { result ≡ short_s erf32 x }
-{
-    if x != x {
-        return x;
-    }
-    f32::from_bits(f32::to_bits(x) / 0x2000 * 0x2000)
-}
-
-fn erfc2(ix: u32, x: f32) -> f32
-    ensures { result ≡ erfc2_s erf32 ix x }
-{
-    // a NaN leaves first: no later look at the bits of x has to allow for one
-    if x != x {
-        return x;
-    }
-    if ix < 0x3fa00000 {
-        return erfc1(x);
-    }
-    let a = fabs(x);
-    let s = 1.0 / (a * a);
-    let z = short(a);
-    // here, so that it does not stand between the two exponentials
-    let q = ratio(ix, s);
-    expf(-z * z - 0.5625) * expf((z - a) * (z + a) + q) / a
-}
-
-// y below 0.84375.
-fn small(x: f32) -> f32
-    ensures { result ≡ small_s erf32 x }
-{
-    let z = x * x;
-    horner(&PP, z) / horner(&QQ, z)
-}
-
-// y with the sign of x.
-fn signed(sign: u32, y: f32) -> f32
-    ensures { result ≡ (if sign ≠? 0 then neg y else y) }
-{
-    if sign != 0 { -y } else { y }
-}
+// The constants and cuts of f32.
+pub static ERF32: Constants<f32> = Constants {
+    not_finite: 0x7f800000,
+    at_0_84375: 0x3f580000,
+    erf_from: 0x31800000,
+    erfc_from: 0x23800000,
+    at_1_4: 0x3e800000,
+    at_1_25: 0x3fa00000,
+    at_1_0_35: 0x4036db6d,
+    erf_upto: 0x40c00000,
+    erfc_upto: 0x41e00000,
+    eighth: 0.125,
+    half: 0.5,
+    nine_sixteenths: 0.5625,
+    one: 1.0,
+    two: 2.0,
+    eight: 8.0,
+    tiny: f32::from_bits(0x03800000),
+    erx: ERX,
+    efx8: EFX8,
+    pp: &PP,
+    qq: &QQ,
+    pa: &PA,
+    qa: &QA,
+    ra: &RA,
+    sa: &SA,
+    rb: &RB,
+    sb: &SB,
+};
 
 pub fn erff(x: f32) -> f32
     ensures { result ≡ erff_s x }
@@ -172,22 +134,7 @@ pub fn erff(x: f32) -> f32
     if x != x {
         return x;
     }
-    let ix = size_word(x);
-    let sign = sign(x);
-    if ix >= 0x7f800000 {
-        return 1.0 - 2.0 * (sign as f32) + 1.0 / x;
-    }
-    if ix < 0x3f580000 {
-        if ix < 0x31800000 {
-            return 0.125 * (8.0 * x + EFX8 * x);
-        }
-        return x + x * small(x);
-    }
-    if ix < 0x40c00000 {
-        return signed(sign, 1.0 - erfc2(ix, x));
-    }
-    let x1p_120 = f32::from_bits(0x03800000);
-    signed(sign, 1.0 - x1p_120)
+    ERF32.erf(x)
 }
 
 pub fn erfcf(x: f32) -> f32
@@ -197,30 +144,5 @@ pub fn erfcf(x: f32) -> f32
     if x != x {
         return x;
     }
-    let ix = size_word(x);
-    let sign = sign(x);
-    if ix >= 0x7f800000 {
-        return 2.0 * (sign as f32) + 1.0 / x;
-    }
-    if ix < 0x3f580000 {
-        if ix < 0x23800000 {
-            return 1.0 - x;
-        }
-        let y = small(x);
-        if sign != 0 || ix < 0x3e800000 {
-            return 1.0 - (x + x * y);
-        }
-        return 0.5 - (x - 0.5 + x * y);
-    }
-    if ix < 0x41e00000 {
-        if sign != 0 {
-            return 2.0 - erfc2(ix, x);
-        }
-        return erfc2(ix, x);
-    }
-    let x1p_120 = f32::from_bits(0x03800000);
-    if sign != 0 {
-        return 2.0 - x1p_120;
-    }
-    x1p_120 * x1p_120
+    ERF32.erfc(x)
 }

@@ -6,6 +6,3 @@ use Rattle.erf.proofs.erf.Goals as goal
 
 pub returns-then-x : goal.returns-then-x
 returns-then-x c = nan_kept erf_s erf_special.erf_nan _ c.if-x.true
-
-pub returns : goal.returns
-returns c = c.erf_of.ensures

@@ -6,6 +6,3 @@ use Rattle.erf.proofs.erfc.Goals as goal
 
 pub returns-then-x : goal.returns-then-x
 returns-then-x c = nan_kept erfc_s erf_special.erfc_nan _ c.if-x.true
-
-pub returns : goal.returns
-returns c = c.erfc_of.ensures
