@@ -10,6 +10,7 @@ use poly::horner;
 use scalbn::single::scalbnf;
 use whole::wholef;
 use words::bits::{sign, size_word};
+use words::real::Real;
 
 const MINUS_HALF: f32 = -0.5;
 
@@ -50,23 +51,10 @@ fn multiple(x: f32, hx: u32, sign: u32) -> i32
     -1
 }
 
-// The f32 nearest to k. Where k is small it is k itself, and `as` is one instruction; std's rounds two halves and adds them.
-fn float_of(k: i32) -> f32
-    ensures { result ≡ of_int binary32 k }
-{
-    if k > 16777215 {
-        return std::num::nearest_i32_to_f32(k);
-    }
-    if k < -16777215 {
-        return std::num::nearest_i32_to_f32(k);
-    }
-    k as f32
-}
-
 fn reduced(x: f32, k: i32) -> f32
     ensures { result ≡ reduced_s exp32 x k }
 {
-    let kf = float_of(k);
+    let kf = f32::of_int(k);
     let hi = x - kf * LN2_HI;
     let lo = kf * LN2_LO;
     primary(hi - lo, hi, lo, k)

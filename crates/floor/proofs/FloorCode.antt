@@ -1,4 +1,4 @@
--- What each return of `floor` and `floorf` gives, over the format, by the tests that lead to it. Assumes nothing.
+-- What each return of `floor` gives, over the format, by the tests that lead to it. Assumes nothing.
 use Rattle.std.proofs.Common.{◌≡◌, ℕ, zero, suc, ◌+◌, ◌-◌, ◌*◌, ◌/◌, ◌%◌, ◌^◌, ◌<◌, ◌≤◌, min, Bool, true, false, cond, not, T, ℤ, pos, neg_ℤ, sym, refl, ap, ◌∙◌, subst, inl, inr, true≢false, le_of_lt, lt_irrefl, mod-eq_of_lt, div-lt_iff_lt-mul, eq-zero-or-pos, lt_of_not-le, div-add-mod', le-div_iff_mul-le, not-le_of_lt, add-one, arith, le→leb, lt→ltb, pow_pos, w64, to_z, of_z}
 use native.Mathlib.Nat.{div-eq_of_lt, zero-mod}
 use mathlib.Core.Bool.{false≢true}
@@ -19,6 +19,8 @@ use Rattle.rounding.proofs.Units.{add_units}
 use Rattle.words.specs.Fabs.{fabs_s}
 use Rattle.words.proofs.PatternLaws.{fabs_fin}
 use Rattle.floor.specs.Floor.{floor_s}
+use Rattle.floor.specs.Cut.{cut_s}
+use Rattle.std.proofs.lemmas.Float.{lt_irrefl as float_lt_irrefl}
 use Rattle.floor.proofs.FloorValues.{size_below, stays, falls, whole_value, floor_inf, part_small}
 use Rattle.floor.proofs.FloorLaws.{whole_from}
 
@@ -298,3 +300,84 @@ module _ (f : Format) (x size : Float) (fit : fits f x ≡ true) (is : size ≡ 
             | inr r ↦
                 absurd (not-le_of_lt (part_small f s m e F (λ z. lt_irrefl 0 (subst (λ (n : ℕ). 0 < n) z r))) ((le-div_iff_mul-le (down_pos e)).1 k))
           ]
+
+all_finite : (f : Format) → T (finite (of_bits f (all_whole f)))
+unfolding of_bits
+all_finite binary32 = tt
+all_finite binary64 = tt
+
+all_at : (f : Format) → T (le (of_bits f (all_whole f)) (of_bits f (all_whole f)))
+unfolding of_bits le
+all_at binary32 = tt
+all_at binary64 = tt
+
+-- -1, as the code has it
+minus_one_by : (f : Format) → neg (of_bits f (one f)) ≡ of_bits f (minus_one f)
+unfolding of_bits neg
+minus_one_by binary32 = refl
+minus_one_by binary64 = refl
+
+-- the same by the code's numbers: o is its 1, z its 0
+module _ (f : Format) (x size o z : Float) (fit : fits f x ≡ true) (is : size ≡ fabs_s x) (O : o ≡ of_bits f (one f)) (Z : z ≡ of_bits f 0) where
+  below_one : lt size o ≡ true → lt size (of_bits f (one f)) ≡ true
+  below_one h = subst (λ (v : Float). lt size v ≡ true) O h
+
+  from_one : lt size o ≡ false → lt size (of_bits f (one f)) ≡ false
+  from_one h = subst (λ (v : Float). lt size v ≡ false) O h
+
+  pub minus : (r p : Float) → lt size o ≡ true → lt x z ≡ true → p ≡ of_bits f (one f) → r ≡ neg p → r ≡ floor_s f x
+  minus r p h k i e =
+      e ∙ ap neg i ∙ minus_one_by f ∙ below_zero f x size fit is (below_one h) (subst (λ (v : Float). lt x v ≡ true) Z k)
+
+  pub plus : (y r : Float) → lt size o ≡ true → y ≡ of_bits f 0 → lt y x ≡ true → r ≡ of_bits f 0 → r ≡ floor_s f x
+  plus y r h i k e = e ∙ above_zero f x size fit is (below_one h) (subst (λ (v : Float). lt v x ≡ true) i k)
+
+  pub stay : (y : Float) → lt size o ≡ true → lt x z ≡ false → y ≡ of_bits f 0 → lt y x ≡ false → x ≡ floor_s f x
+  stay y h k i l =
+      at_zero f x size fit is (below_one h) (subst (λ (v : Float). lt x v ≡ false) Z k) (subst (λ (v : Float). lt v x ≡ false) i l)
+
+  -- y is x without its fraction
+  module _ (y : Float) (cut : y ≡ cut_s f x) (large : lt size o ≡ false) where
+    abbrev n : ℤ
+    n = to_signed 63 x
+
+    room : (b : Bool) → lt (fabs_s x) (of_bits f (all_whole f)) ≡ b → lt size (of_bits f (all_whole f)) ≡ b
+    room b h = ap (λ (v : Float). lt v (of_bits f (all_whole f))) is ∙ h
+
+    here : (b : Bool) → lt (fabs_s x) (of_bits f (all_whole f)) ≡ b → y ≡ cond b (of_int f n) x
+    here b h = cut ∙ ap (λ (t : Bool). cond t (of_int f n) x) h
+
+    pub less : (r p : Float) → lt x y ≡ true → p ≡ of_bits f (one f) → r ≡ sub f y p → r ≡ floor_s f x
+    less r p h i e = go (lt (fabs_s x) (of_bits f (all_whole f))) refl
+      where
+        go : (b : Bool) → lt (fabs_s x) (of_bits f (all_whole f)) ≡ b → r ≡ floor_s f x
+        go true k =
+            e ∙ ap (sub f y) i ∙ ap (λ (v : Float). sub f v (of_bits f (one f))) (here true k)
+            ∙ one_less f x size fit is (room true k) n refl (from_one large) (subst (λ (v : Float). lt x v ≡ true) (here true k) h)
+        go false k = absurd (float_lt_irrefl x (subst T (sym (subst (λ (v : Float). lt x v ≡ true) (here false k) h)) tt))
+
+    pub stays_cut : lt x y ≡ false → y ≡ floor_s f x
+    stays_cut h = go (lt (fabs_s x) (of_bits f (all_whole f))) refl
+      where
+        go : (b : Bool) → lt (fabs_s x) (of_bits f (all_whole f)) ≡ b → y ≡ floor_s f x
+        go true k =
+            here true k
+            ∙ cut_off f x size fit is (room true k) n refl (from_one large) (subst (λ (v : Float). lt x v ≡ false) (here true k) h)
+        go false k = here false k ∙ no_fraction f x size fit is (of_bits f (all_whole f)) (all_finite f) (all_at f) (room false k)
+
+-- ---- the casts of `cut`
+module _ (f : Format) (x size c : Float) (fit : fits f x ≡ true) (is : size ≡ fabs_s x) (C : c ≡ of_bits f (all_whole f)) where
+  pub casts : lt size c ≡ true → T (le (fin true 1 (pos 63)) x) × T (lt x (fin false 1 (pos 63)))
+  casts h = in_range f x size fit is (subst (λ (v : Float). lt size v ≡ true) C h)
+
+  pub cast_back : lt size c ≡ true → (n : ℤ) → n ≡ to_signed 63 x → T (in_float f n)
+  cast_back h n e = cut_casts f x size fit is (subst (λ (v : Float). lt size v ≡ true) C h) n e
+
+  whether : (b : Bool) → lt size c ≡ b → lt (fabs_s x) (of_bits f (all_whole f)) ≡ b
+  whether b h = ap (λ (v : Float). lt v (of_bits f (all_whole f))) (sym is) ∙ subst (λ (v : Float). lt size v ≡ b) C h
+
+  pub cut_is : lt size c ≡ true → (n : ℤ) → n ≡ to_signed 63 x → of_int f n ≡ cut_s f x
+  cut_is h n e = ap (of_int f) e ∙ sym (ap (λ (t : Bool). cond t (of_int f (to_signed 63 x)) x) (whether true h))
+
+  pub kept_is : lt size c ≡ false → x ≡ cut_s f x
+  kept_is h = sym (ap (λ (t : Bool). cond t (of_int f (to_signed 63 x)) x) (whether false h))

@@ -7,7 +7,7 @@
 //  4 narrow           8 size_word
 // 16 to 20 horner at a, over no coefficient, the first, the first two and all of erf's PP, and over erf's SA
 // 33 fabs           36 sign        39 logf
-// 34 floorf          37 size_word       40 scalbnf(a, b), b an i32
+// 34 floor          37 size_word       40 scalbnf(a, b), b an i32
 // 35 wholef's number 38 expf            45 wholef's fraction, 1 or 0
 // 41 erff            43 lgammaf_r: its sign above its value
 // 42 erfcf           44 tgammaf
@@ -35,7 +35,7 @@ use erf::{erf, erf_erfc, erfc};
 use erff::{erfcf, erff};
 use exp::exp;
 use exp::single::expf;
-use floor::{floor, floorf};
+use floor::floor;
 use lgamma::lgamma_r;
 use lgammaf::lgammaf_r;
 use logarithm::log;
@@ -160,7 +160,7 @@ fn horner_leaf(leaf: u64, x: f64) -> u64 {
 fn number_leaf_f32(leaf: u64, x: f32) -> u64 {
     match leaf {
         33 => bits_of(fabs(x)) as u64,
-        34 => bits_of(floorf(x)) as u64,
+        34 => bits_of(floor(x)) as u64,
         35 => pattern(wholef(x).number),
         36 => sign(x) as u64,
         37 => size_word(x) as u64,

@@ -3,7 +3,7 @@ ghost use Rattle.std.specs.Prelude.{◌≡◌};
 ghost use Rattle.sinpi.specs.Sinpif.{turn_s, sinpif_s};
 
 use crate::angle;
-use floor::floorf;
+use floor::floor;
 use trig::single::{k_cosf, k_sinf};
 
 // x mod 2.0
@@ -11,7 +11,7 @@ fn turn(x: f32) -> f32
     ensures { result ≡ turn_s x }
 {
     let h = x * 0.5;
-    2.0 * (h - floorf(h))
+    2.0 * (h - floor(h))
 }
 
 // n goes by tests of t, as in sinpi.

@@ -1,6 +1,6 @@
 // What f64 and f32 have in common, so that a function of both widths is written once: the operators, each rounded once, tests, literals, the bits
 // with one pattern for a NaN, and a number as the definitions see it.
-ghost use Rattle.std.specs.Prelude.{◌≡◌, ℕ, pos, not, Float, refl};
+ghost use Rattle.std.specs.Prelude.{◌≡◌, ◌*◌, ℕ, true, Float, refl};
 ghost use Rattle.std.specs.Ordering.{partial_lt};
 ghost use Rattle.std.specs.Float.{Format, binary32, binary64};
 ghost use Rattle.std.specs.Float.Ieee as Ieee;
@@ -72,13 +72,16 @@ pub trait Real: Copy
     // The Rust's fabs: the sign bit cleared. A NaN leaves first: where a caller has looked for one already, the compiler drops the test, and one
     // instruction is left.
     fn fabs(self) -> Self
-        ensures { float result ≡ fabs_s (float self) };
+        ensures holds { Ieee.fits format (float self) ≡ true }
+        ensures value { float result ≡ fabs_s (float self) };
 
     // The Rust's `k as f64` or `k as f32`.
     fn of_int(k: i32) -> Self
         ensures { float result ≡ Ieee.of_int format k };
 
     ghost zero_law: { float ZERO ≡ Ieee.of_bits format 0 };
+
+    ghost one_law: { float ONE ≡ Ieee.of_bits format (Ieee.emax format * Ieee.hid format) };
 
     ghost can_add_law: { (a b : Self) → Self.can_add a b };
 
@@ -168,6 +171,8 @@ impl Real for f64 {
 
     ghost zero_law = { refl };
 
+    ghost one_law = { refl };
+
     ghost can_add_law = { λ a b. tt };
 
     ghost add_law = { λ a b r h. h };
@@ -255,6 +260,8 @@ impl Real for f32 {
     }
 
     ghost zero_law = { refl };
+
+    ghost one_law = { refl };
 
     ghost can_add_law = { λ a b. tt };
 

@@ -1,44 +1,48 @@
--- The answers for `floor`: each return by its tests, and the casts. Assumes nothing.
-use lib.Ieee.{binary64, of_bits, le}
+-- The answers for `floor`: each return by its tests. Assumes nothing.
+use Rattle.std.proofs.Common.{sym, ap, ◌∙◌}
 use Rattle.floor.proofs.FloorCode as code
 use Rattle.floor.proofs.floor.Goals as goal
 
--- ---- size below one
-pub returns-then-x : goal.returns-then-x
-returns-then-x c =
-    code.below_zero binary64 _ _ c.well_formed.0.1 c.fabs-size.ensures c.if-size.true c.if-x.true
+pub returns-then-lt-2 : goal.returns-then-lt-2
+returns-then-lt-2 g c =
+    let r = g.met.R.Real in
+    code.minus g.R.Real.format (g.R.Real.float c.args.x) _ _ _ c.fabs-size.ensures.holds c.fabs-size.ensures.value
+    (ap g.R.Real.float c.ONE.ensures ∙ r.one_law) (ap g.R.Real.float c.ZERO.ensures ∙ r.zero_law) _ _
+    (sym (r.lt_law _ _) ∙ sym c.lt.ensures ∙ c.if-lt.true)
+    (sym (r.lt_law _ _) ∙ sym c.lt-then-lt.ensures ∙ c.if-lt-2.true)
+    (ap g.R.Real.float c.ONE-then-lt-2.ensures ∙ r.one_law) (r.neg_law _ _ c.neg.ensures)
 
-pub returns-then-x-2 : goal.returns-then-x-2
-returns-then-x-2 c =
-    code.above_zero binary64 _ _ c.well_formed.0.1 c.fabs-size.ensures c.if-size.true c.if-x-2.true
+pub returns-then-lt-3 : goal.returns-then-lt-3
+returns-then-lt-3 g c =
+    let r = g.met.R.Real in
+    code.plus g.R.Real.format (g.R.Real.float c.args.x) _ _ _ c.fabs-size.ensures.holds c.fabs-size.ensures.value
+    (ap g.R.Real.float c.ONE.ensures ∙ r.one_law) (ap g.R.Real.float c.ZERO.ensures ∙ r.zero_law) _ _
+    (sym (r.lt_law _ _) ∙ sym c.lt.ensures ∙ c.if-lt.true) (ap g.R.Real.float c.ZERO-else-lt-2.ensures ∙ r.zero_law)
+    (sym (r.lt_law _ _) ∙ sym c.lt-else-lt-2.ensures ∙ c.if-lt-3.true) (ap g.R.Real.float c.ZERO-then-lt-3.ensures ∙ r.zero_law)
 
-pub returns-else-x-2 : goal.returns-else-x-2
-returns-else-x-2 c =
-    code.at_zero binary64 _ _ c.well_formed.0.1 c.fabs-size.ensures c.if-size.true c.if-x.false c.if-x-2.false
+pub returns-else-lt-3 : goal.returns-else-lt-3
+returns-else-lt-3 g c =
+    let r = g.met.R.Real in
+    code.stay g.R.Real.format (g.R.Real.float c.args.x) _ _ _ c.fabs-size.ensures.holds c.fabs-size.ensures.value
+    (ap g.R.Real.float c.ONE.ensures ∙ r.one_law) (ap g.R.Real.float c.ZERO.ensures ∙ r.zero_law) _
+    (sym (r.lt_law _ _) ∙ sym c.lt.ensures ∙ c.if-lt.true)
+    (sym (r.lt_law _ _) ∙ sym c.lt-then-lt.ensures ∙ c.if-lt-2.false)
+    (ap g.R.Real.float c.ZERO-else-lt-2.ensures ∙ r.zero_law)
+    (sym (r.lt_law _ _) ∙ sym c.lt-else-lt-2.ensures ∙ c.if-lt-3.false)
 
--- ---- no fraction possible
-pub returns-else-size-2 : goal.returns-else-size-2
-unfolding of_bits le
-returns-else-size-2 c =
-    code.no_fraction binary64 _ _ c.well_formed.0.1 c.fabs-size.ensures _ tt tt c.if-size-2.false
+pub returns-then-lt-4 : goal.returns-then-lt-4
+returns-then-lt-4 g c =
+    let r = g.met.R.Real in
+    code.less g.R.Real.format (g.R.Real.float c.args.x) _ _ _ c.fabs-size.ensures.holds c.fabs-size.ensures.value
+    (ap g.R.Real.float c.ONE.ensures ∙ r.one_law) r.zero_law _ c.cut-cut.ensures.value
+    (sym (r.lt_law _ _) ∙ sym c.lt.ensures ∙ c.if-lt.false) _ _
+    (sym (r.lt_law _ _) ∙ sym c.lt-else-lt.ensures ∙ c.if-lt-4.true)
+    (ap g.R.Real.float c.ONE-then-lt-4.ensures ∙ r.one_law) (r.sub_law _ _ _ c.sub.ensures)
 
--- ---- a fraction still present, or room for one
-pub truncating_f64_to_i64-cut-requires : goal.truncating_f64_to_i64-cut-requires
-truncating_f64_to_i64-cut-requires c =
-    let k = code.in_range binary64 _ _ c.well_formed.0.1 c.fabs-size.ensures c.if-size-2.true in
-    record { lower_bound = k.0; upper_bound = k.1 }
-
-pub int_to_float-cut : goal.int_to_float-cut
-int_to_float-cut c =
-    code.cut_casts binary64 _ _ c.well_formed.0.1 c.fabs-size.ensures c.if-size-2.true _
-    (code.held _ _ c.truncating_f64_to_i64-cut.ensures)
-
-pub returns-then-cut-x : goal.returns-then-cut-x
-returns-then-cut-x c =
-    code.one_less binary64 _ _ c.well_formed.0.1 c.fabs-size.ensures c.if-size-2.true _
-    (code.held _ _ c.truncating_f64_to_i64-cut.ensures) c.if-size.false c.if-cut-x.true
-
-pub returns-else-cut-x : goal.returns-else-cut-x
-returns-else-cut-x c =
-    code.cut_off binary64 _ _ c.well_formed.0.1 c.fabs-size.ensures c.if-size-2.true _
-    (code.held _ _ c.truncating_f64_to_i64-cut.ensures) c.if-size.false c.if-cut-x.false
+pub returns-else-lt-4 : goal.returns-else-lt-4
+returns-else-lt-4 g c =
+    let r = g.met.R.Real in
+    code.stays_cut g.R.Real.format (g.R.Real.float c.args.x) _ _ _ c.fabs-size.ensures.holds c.fabs-size.ensures.value
+    (ap g.R.Real.float c.ONE.ensures ∙ r.one_law) r.zero_law _ c.cut-cut.ensures.value
+    (sym (r.lt_law _ _) ∙ sym c.lt.ensures ∙ c.if-lt.false)
+    (sym (r.lt_law _ _) ∙ sym c.lt-else-lt.ensures ∙ c.if-lt-4.false)
