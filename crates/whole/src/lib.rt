@@ -2,11 +2,12 @@
 // worked out from the fields of the bits.
 #![tactic(auto)]
 
+pub mod real;
+
 ghost use Rattle.std.specs.Prelude.{◌≡◌, not, ◌/◌, ◌%◌, ◌^◌, ◌<◌, eqb};
 ghost use Rattle.whole.specs.Whole.{small, whole_s, has_fraction_s};
 
 use words::bits::bits_of;
-use words::real::Real;
 
 // What there is for a size from 2^31 on, and for a NaN.
 const OUTSIDE: i32 = 0;
@@ -87,22 +88,4 @@ pub fn wholef(x: f32) -> WholePart
     }
     let m = (b % 0x80_0000 + 0x80_0000) * 128;
     divided(m as u64, (157 - e) as u64, b >= 0x8000_0000)
-}
-
-// The whole part of either width.
-pub trait Whole: Real {
-    fn whole(self) -> WholePart
-        ensures { (result.number ≡ whole_s (Self.float self)) × (result.fraction ≡ has_fraction_s (Self.float self)) };
-}
-
-impl Whole for f64 {
-    fn whole(self) -> WholePart {
-        whole(self)
-    }
-}
-
-impl Whole for f32 {
-    fn whole(self) -> WholePart {
-        wholef(self)
-    }
 }

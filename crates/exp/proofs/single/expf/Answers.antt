@@ -11,8 +11,8 @@ returns-then-x c = nan_kept expf_s expf_nan _ c.if-x.true
 
 pub returns-then-hx-ge1118743632 : goal.returns-then-hx-ge1118743632
 unfolding expf_s
-returns-then-hx-ge1118743632 c = simp (le-leb _ _ (rw c.size_bits-hx.ensures at c.if-hx-ge1118743632.true)) (cc)
+returns-then-hx-ge1118743632 c = simp (le-leb _ _ (rw c.size_word-hx.ensures at c.if-hx-ge1118743632.true)) (cc)
 
 pub returns : goal.returns
 unfolding expf_s
-returns c = simp (lt-leb _ _ (rw c.size_bits-hx.ensures at c.if-hx-ge1118743632.false)) (cc)
+returns c = simp (lt-leb _ _ (rw c.size_word-hx.ensures at c.if-hx-ge1118743632.false)) (cc)

@@ -16,4 +16,4 @@ int_to_float-dk c =
 pub returns : goal.returns
 unfolding near_s
 returns c =
-    rw (c.hornerf.ensures, c.hornerf-2.ensures, to_z-of_z w32 c.args.k c.ranges.k)
+    rw (c.horner.ensures, c.horner-2.ensures, to_z-of_z w32 c.args.k c.ranges.k)

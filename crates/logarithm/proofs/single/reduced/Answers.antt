@@ -23,12 +23,12 @@ returns c =
     (hx % 2 ^ 23 + 0x3F3504F3)
     c.args.k
     c.exponent-k.result
-    c.of_bits_f32.result
+    c.of_bits.result
     _
     c.ranges.k
     (sfits_of c.exponent-k.type_inv)
     c.exponent-k.ensures.value
-    c.of_bits_f32.ensures
+    c.of_bits.ensures
     c.near.ensures
     (omega arith)
     (omega arith)

@@ -16,4 +16,4 @@ overflow_mul-n c = code.product_fits binary32 c.args.n c.ranges.n c.requires
 pub returns : goal.returns
 returns c =
     let s = c in
-    c.of_bits_f32.ensures ∙ code.power_is binary32 s.args.n s.ranges.n s.requires
+    c.of_bits.ensures ∙ code.power_is binary32 s.args.n s.ranges.n s.requires
