@@ -9,7 +9,7 @@ use borrow.Author.Tests.{lt-ltb, le-ltb}
 use lib.ListN.{length, length-append}
 use Rattle.digits.specs.Digits.{word, digits}
 use Rattle.digits.proofs.DigitLaws.{digits_more, length_digits}
-use Rattle.records.specs.Codes.{DONE, UNKNOWN}
+use Rattle.records.specs.declared.Code.TheVariants.{Done, Unknown}
 use Rattle.records.specs.Row.{Row, row_in}
 use Rattle.feeding.specs.Feed.{State, Open, Stopped, begun, ends, goes, takes, call, close}
 use Rattle.feeding.proofs.TakeLaws.{le_or, call_open}
@@ -65,7 +65,7 @@ module _ (T : List Row) (f : Feed) (z : 0 < f.length) (small : (row_in T (f.held
   opened p room = ap (λ (y : State). call T y p room) (meant_open f (omega arith)) ∙ call_open T h p room (held_begun T f.held f.length z le)
 
   pub held_short : (p : List ℕ) (room : ℕ) → f.length + length p ≤ (row_in T (f.held % 256)).width →
-      call T (meant f) p room ≡ goes (length p) [] (ends (Open (h ++ p)) DONE)
+      call T (meant f) p room ≡ goes (length p) [] (ends (Open (h ++ p)) Done)
   unfolding begun takes
   held_short p room l =
       let b : begun T (h ++ p) ≡ true =
@@ -76,7 +76,7 @@ module _ (T : List Row) (f : Feed) (z : 0 < f.length) (small : (row_in T (f.held
 
 -- fields that hold no start of a record
 pub held_stopped : (T : List Row) (f : Feed) → 0 < f.length → (row_in T (f.held % 256)).width < f.length →
-    ((p : List ℕ) (room : ℕ) → call T (meant f) p room ≡ ends Stopped UNKNOWN) × (close T (meant f) ≡ record { feed = Stopped; code = UNKNOWN })
+    ((p : List ℕ) (room : ℕ) → call T (meant f) p room ≡ ends Stopped Unknown) × (close T (meant f) ≡ record { feed = Stopped; code = Unknown })
 held_stopped T f z h =
     let s = stays_stopped T in
     ⊎_elim

@@ -1,12 +1,14 @@
 -- A batch over a piece, and what it left: the report of a call that held nothing. Over any table. Assumes nothing.
-use mathlib.Core.Path.{◌≡◌, refl, sym, ap, ◌∙◌, subst}
+use mathlib.Core.Path.{◌≡◌, sym, ap, ◌∙◌, subst}
 use mathlib.Core.List.{List, [], ◌∷◌, ◌++◌, append-nil}
 use Prim.Native.Nat.{ℕ, ◌+◌, ◌-◌, ◌≤◌, ◌<◌}
 use native.Mathlib.Omega.{arith}
 use lib.ListN.{length, drop, get_or, length-drop}
 use lib.Seq.{sets, get_or-drop}
 use native.Mathlib.Nat.{add-zero}
-use Rattle.records.specs.Codes.{DONE, UNKNOWN, CUT, FULL}
+use Rattle.records.specs.Codes.{number_s}
+use Rattle.records.specs.declared.Code.{Code}
+use Rattle.records.specs.declared.Code.TheVariants.{Done, Unknown, Cut, Full}
 use Rattle.records.specs.Row.{Row, row_in}
 use Rattle.records.specs.Run.{Out, run}
 use Rattle.records.specs.Did.{Did}
@@ -41,7 +43,7 @@ module _ (T : List Row) (p a b : List ℕ) (t : Report) (did : Did (run T p (len
       let x : o.bytes ++ e.bytes ≡ o.bytes = ap (λ (y : List ℕ). o.bytes ++ y) n ∙ append-nil o.bytes in
       let q : takes T [] p (length a) ≡ goes t.tally.read o.bytes e =
       takes_run T p (length a) ∙ ap (λ (m : ℕ). goes m o.bytes (ending T (drop m p) o.code)) read_is
-      ∙ ap (λ (m : ℕ). goes t.tally.read o.bytes (ending T rest m)) (sym did.code)
+      ∙ ap (λ (m : Code). goes t.tally.read o.bytes (ending T rest m)) (sym did.code)
       ∙ ap (goes t.tally.read o.bytes) i in
       subst (λ (y : Call). Pushed y r a b) (sym q)
       (record {
@@ -53,11 +55,11 @@ module _ (T : List Row) (p a b : List ℕ) (t : Report) (did : Did (run T p (len
       })
 
   -- what its code says of what is left
-  by_code : (P : ℕ → Type 0) →
-      (rest ≡ [] → P DONE) →
-      ((k : ℕ) (s : List ℕ) → rest ≡ k ∷ s → P UNKNOWN) →
-      ((k : ℕ) (s : List ℕ) → rest ≡ k ∷ s → length s < (row_in T k).width → P CUT) →
-      ((k : ℕ) (s : List ℕ) → rest ≡ k ∷ s → (row_in T k).width ≤ length s → P FULL) →
+  by_code : (P : Code → Type 0) →
+      (rest ≡ [] → P Done) →
+      ((k : ℕ) (s : List ℕ) → rest ≡ k ∷ s → P Unknown) →
+      ((k : ℕ) (s : List ℕ) → rest ≡ k ∷ s → length s < (row_in T k).width → P Cut) →
+      ((k : ℕ) (s : List ℕ) → rest ≡ k ∷ s → (row_in T k).width ≤ length s → P Full) →
       P t.code
   by_code P none unknown cut full =
       let i : drop o.tally.read p ≡ rest = ap (λ (m : ℕ). drop m p) read_is in
@@ -65,20 +67,17 @@ module _ (T : List Row) (p a b : List ℕ) (t : Report) (did : Did (run T p (len
       (refused T (drop o.tally.read p) (length a - o.tally.written) o.code (run_ends T p (length a)) P
       (λ e. none (sym i ∙ e)) (λ k s e _. unknown k s (sym i ∙ e)) (λ k s e l. cut k s (sym i ∙ e) l) (λ k s e _ l _. full k s (sym i ∙ e) l))
 
-  pub code_done : (t.code ≡ UNKNOWN → ⊥) → (t.code ≡ CUT → ⊥) → (t.code ≡ FULL → ⊥) → t.code ≡ DONE
-  code_done =
-      by_code (λ (n : ℕ). (n ≡ UNKNOWN → ⊥) → (n ≡ CUT → ⊥) → (n ≡ FULL → ⊥) → n ≡ DONE)
-      (λ _ _ _ _. refl) (λ _ _ _ u _ _. absurd (u refl)) (λ _ _ _ _ _ c _. absurd (c refl)) (λ _ _ _ _ _ _ f. absurd (f refl))
-
   -- the kind of the record that was refused
   pub kind_is : get_or rest 0 0 ≡ get_or p t.tally.read 0
   kind_is = get_or-drop t.tally.read p 0 0 ∙ ap (λ (j : ℕ). get_or p j 0) (add-zero t.tally.read)
 
   -- for want of room: all of it is there
-  pub left_full : t.code ≡ FULL → (t.tally.read < length p) × (t.tally.read + (row_in T (get_or p t.tally.read 0)).width ≤ length p)
+  pub left_full : t.code ≡ Full → (t.tally.read < length p) × (t.tally.read + (row_in T (get_or p t.tally.read 0)).width ≤ length p)
   left_full =
-      by_code (λ (n : ℕ). n ≡ FULL → (t.tally.read < length p) × (t.tally.read + (row_in T (get_or p t.tally.read 0)).width ≤ length p))
-      (λ _ z. absurd (omega arith)) (λ _ _ _ z. absurd (omega arith)) (λ _ _ _ _ z. absurd (omega arith))
+      by_code (λ (n : Code). n ≡ Full → (t.tally.read < length p) × (t.tally.read + (row_in T (get_or p t.tally.read 0)).width ≤ length p))
+      (λ _ z. let y : ◌≡◌ {A = ℕ} 0 3 = ap number_s z in absurd (omega arith))
+      (λ _ _ _ z. let y : ◌≡◌ {A = ℕ} 1 3 = ap number_s z in absurd (omega arith))
+      (λ _ _ _ _ z. let y : ◌≡◌ {A = ℕ} 2 3 = ap number_s z in absurd (omega arith))
       (λ k s e l _.
       let n = ap length e in
       let d = length-drop t.tally.read p in

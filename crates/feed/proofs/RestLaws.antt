@@ -9,7 +9,7 @@ use lib.ListN.{length, take, drop, set, length-append, length-drop, drop_of_leng
 use lib.Seq.{sets, length-sets, take_all, take-take}
 use Rattle.digits.specs.Digits.{digits}
 use Rattle.digits.proofs.StoreLaws.{sets_append}
-use Rattle.records.specs.Codes.{DONE, FULL}
+use Rattle.records.specs.declared.Code.TheVariants.{Done, Full}
 use Rattle.records.specs.Row.{Row, row_in}
 use Rattle.records.specs.Run.{stop, run}
 use Rattle.feeding.specs.Feed.{Open, Call, ends, goes, takes}
@@ -40,12 +40,12 @@ module _ (T : List Row) (x have w : ℕ) (p bytes : List ℕ) (held : 0 < have) 
 
   -- what a batch over it says, and what the call does
   abbrev pub Refused : ℕ → Type 0
-  Refused room = (run T (take (w + 1) bytes) room ≡ stop FULL) × (takes T (digits have x) p room ≡ goes (need - 1) [] (ends (Open (take w bytes)) FULL))
+  Refused room = (run T (take (w + 1) bytes) room ≡ stop Full) × (takes T (digits have x) p room ≡ goes (need - 1) [] (ends (Open (take w bytes)) Full))
 
   abbrev pub Answered : ℕ → Type 0
   Answered room =
       let o = run T (take (w + 1) bytes) room in
-      (o.code ≡ DONE) × (takes T (digits have x) p room ≡ goes need o.bytes (takes T [] (drop need p) (room - o.tally.written)))
+      (o.code ≡ Done) × (takes T (digits have x) p room ≡ goes need o.bytes (takes T [] (drop need p) (room - o.tally.written)))
 
   pub by_batch : (room : ℕ) → Refused room ⊎ Answered room
   by_batch room =
@@ -59,7 +59,7 @@ module _ (T : List Row) (x have w : ℕ) (p bytes : List ℕ) (held : 0 < have) 
       ⊎_elim
       (λ r. inl (
         ap (λ (y : List ℕ). run T y room) record_is ∙ r.0,
-        h ∙ r.1 ∙ ap (λ (y : List ℕ). goes (need - 1) [] (ends (Open y) FULL)) front,
+        h ∙ r.1 ∙ ap (λ (y : List ℕ). goes (need - 1) [] (ends (Open y) Full)) front,
       ))
       (λ r. inr (
         ap (λ (y : List ℕ). (run T y room).code) record_is ∙ r.0,

@@ -66,7 +66,7 @@ takes_held T h [] room e a b = a
 takes_held T h (x ∷ p) room e a b =
     let s = h ++ (x ∷ []) in
     byte_elim T h x room
-    (λ (o : Out). Held (turn o h (takes T s p room) (takes T [] p (room - o.tally.written))).feed)
+    (λ (o : Out). Held (turn o.code h o.bytes (takes T s p room) (takes T [] p (room - o.tally.written))).feed)
     e
     (λ u. tt)
     (λ i. takes_held T s p room i.0 (bytes_append h (x ∷ []) a (b.0, tt)) b.1)

@@ -1,7 +1,7 @@
 -- Pushes in turn, each on the feed that the one before handed back, and what they promise together.
 use Rattle.std.specs.Prelude.{◌≡◌, List, [], ◌∷◌, ◌++◌, ℕ, ◌≤◌, ◌<◌, length, take, drop}
 use Rattle.kinds.specs.Kinds.{longest_answer}
-use Rattle.records.specs.Codes.{FULL}
+use Rattle.records.specs.declared.Code.TheVariants.{Full}
 use Rattle.records.specs.Run.{run}
 use Rattle.replies.specs.Table.{table}
 use Rattle.feeding.specs.Feed.{Open, call}
@@ -33,6 +33,6 @@ pushes f s (o ∷ os) =
 abbrev pub PushedAsBatch : Type 0
 PushedAsBatch =
     (s : List ℕ) → Bytes s → (os : List Offer) → Roomy longest_answer os → length s ≤ offering os →
-    (room : ℕ) → ((run table s room).code ≡ FULL → ⊥) →
+    (room : ℕ) → ((run table s room).code ≡ Full → ⊥) →
     let r = pushes (fields (Open [])) s os in
     (r.answers ≡ (run table s room).bytes) × ((close_s r.feed).code ≡ (run table s room).code)

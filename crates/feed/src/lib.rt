@@ -12,7 +12,7 @@ ghost use Rattle.feed.specs.Post.{Pushed, Shut, push_s, close_s};
 
 use digits::{get, put};
 use kinds::body;
-use records::{CUT, DONE, FULL, UNKNOWN};
+use records::Code;
 use stream::batch;
 
 // The first `length` bytes of a record, as the number that they make, the lowest first. Where they are no start of a known record, as with a
@@ -29,14 +29,14 @@ pub struct Fed {
     pub feed: Feed,
     pub taken: usize,
     pub written: usize,
-    pub code: u8,
+    pub code: Code,
 }
 
 // What the call that closes a feed leaves.
 #[derive(Clone, Copy)]
 pub struct Closed {
     pub feed: Feed,
-    pub code: u8,
+    pub code: Code,
 }
 
 // The feed that holds the `n` bytes of `s` from `at` on.
@@ -73,39 +73,24 @@ fn fresh(piece: &[u8], answers: &mut [u8]) -> Fed
     ensures { Pushed (takes table [] piece.now (length answers.old)) result answers.old answers.new }
 {
     let t = batch(piece, answers);
-    let n = t.tally;
-    let read = n.read;
-    if t.code == UNKNOWN {
-        return Fed {
-            feed: stopped(),
-            taken: read,
-            written: n.written,
-            code: UNKNOWN,
-        };
-    }
-    if t.code == CUT {
-        return Fed {
-            feed: holding(piece, read, piece.len() - read),
-            taken: piece.len(),
-            written: n.written,
-            code: DONE,
-        };
-    }
-    if t.code == FULL {
-        let width = body(piece[read]);
-        let taken = read + width;
-        return Fed {
-            feed: holding(piece, read, width),
-            taken,
-            written: n.written,
-            code: FULL,
-        };
-    }
+    let read = t.tally.read;
+    let (feed, taken, code) = match t.code {
+        Code::Unknown => (stopped(), read, Code::Unknown),
+        Code::Cut => {
+            let cut = holding(piece, read, piece.len() - read);
+            (cut, piece.len(), Code::Done)
+        }
+        Code::Full => {
+            let width = body(piece[read]);
+            (holding(piece, read, width), read + width, Code::Full)
+        }
+        Code::Done => (Feed::empty(), read, Code::Done),
+    };
     Fed {
-        feed: Feed::empty(),
-        taken: read,
-        written: n.written,
-        code: DONE,
+        feed,
+        taken,
+        written: t.tally.written,
+        code,
     }
 }
 
@@ -118,13 +103,13 @@ fn whole(held: u64, have: usize, width: usize, piece: &[u8], answers: &mut [u8])
     let need = width + 1 - have;
     let record = joined(held, have, piece, need);
     let t = batch(&record[..width + 1], answers);
-    if t.code == FULL {
+    if let Code::Full = t.code {
         let taken = need - 1;
         return Fed {
             feed: holding(&record, 0, width),
             taken,
             written: 0,
-            code: FULL,
+            code: Code::Full,
         };
     }
     let n = t.tally;
@@ -165,7 +150,7 @@ impl Feed {
                 feed: stopped(),
                 taken: 0,
                 written: 0,
-                code: UNKNOWN,
+                code: Code::Unknown,
             };
         }
         if piece.len() < width + 1 - have {
@@ -174,7 +159,7 @@ impl Feed {
                 feed: holding(&record, 0, have + piece.len()),
                 taken: piece.len(),
                 written: 0,
-                code: DONE,
+                code: Code::Done,
             };
         }
         whole(held, have, width, piece, answers)
@@ -188,18 +173,18 @@ impl Feed {
         if have == 0 {
             return Closed {
                 feed: Feed::empty(),
-                code: DONE,
+                code: Code::Done,
             };
         }
         if body((self.held % 256) as u8) < have {
             return Closed {
                 feed: stopped(),
-                code: UNKNOWN,
+                code: Code::Unknown,
             };
         }
         Closed {
             feed: Feed::empty(),
-            code: CUT,
+            code: Code::Cut,
         }
     }
 }

@@ -6,7 +6,7 @@ use mathlib.Core.Logic.{◌⊎◌, inl, inr}
 use Prim.Native.Nat.{ℕ, ◌+◌, ◌-◌, ◌≤◌, ◌<◌}
 use native.Mathlib.Omega.{arith}
 use lib.ListN.{length, drop}
-use Rattle.records.specs.Codes.{DONE, UNKNOWN}
+use Rattle.records.specs.declared.Code.TheVariants.{Done, Unknown}
 use Rattle.records.specs.Row.{Row}
 use Rattle.records.specs.Run.{Out}
 use Rattle.feeding.specs.Feed.{State, Open, Stopped, begun, Call, ends, goes, turn, takes, call, over, close}
@@ -17,11 +17,11 @@ use Rattle.feeding.proofs.TakeLaws.{byte_elim, takes_good, call_open, Ample, tak
 -- ---- a feed that has stopped
 
 -- it stays so, takes nothing, writes nothing, and answers 1 to every call and to the one that closes it
-pub stopped_stays : (T : List Row) (p : List ℕ) (room : ℕ) → call T Stopped p room ≡ ends Stopped UNKNOWN
+pub stopped_stays : (T : List Row) (p : List ℕ) (room : ℕ) → call T Stopped p room ≡ ends Stopped Unknown
 unfolding call
 stopped_stays T p room = refl
 
-pub stopped_closes : (T : List Row) → close T Stopped ≡ record { feed = Stopped; code = UNKNOWN }
+pub stopped_closes : (T : List Row) → close T Stopped ≡ record { feed = Stopped; code = Unknown }
 unfolding close
 stopped_closes T = refl
 
@@ -36,7 +36,7 @@ unfolding close
 others_close T h e = rw e
 
 -- an empty piece, whatever the room
-pub empty_piece : (T : List Row) (h : List ℕ) (room : ℕ) → begun T h ≡ true → call T (Open h) [] room ≡ ends (Open h) DONE
+pub empty_piece : (T : List Row) (h : List ℕ) (room : ℕ) → begun T h ≡ true → call T (Open h) [] room ≡ ends (Open h) Done
 unfolding takes
 empty_piece T h room e = call_open T h [] room e
 
@@ -83,20 +83,20 @@ pub goes_on : (T : List Row) → GoesOn T
 goes_on T (Open h) p room more =
     by_begun (begun T h) (good_goes_on T (Open h) p room more)
     (λ e.
-    let s : (r : ℕ) → call T (Open h) p r ≡ ends Stopped UNKNOWN = λ r. (no_start T h p r e).0 ∙ stopped_stays T p r in
+    let s : (r : ℕ) → call T (Open h) p r ≡ ends Stopped Unknown = λ r. (no_start T h p r e).0 ∙ stopped_stays T p r in
     s (room + more) ∙ sym (ap (goes 0 []) (stopped_stays T p (room + more - 0))) ∙ ap (Onward T p (room + more)) (sym (s room)))
 goes_on T Stopped p room more = good_goes_on T Stopped p room more tt
 
 -- ---- progress
 
 pub takes_some : (T : List Row) (L : ℕ) → Longest T L → (h : List ℕ) (b : ℕ) (p : List ℕ) (room : ℕ) → begun T h ≡ true → L ≤ room →
-    (0 < (takes T h (b ∷ p) room).taken) ⊎ (takes T h (b ∷ p) room ≡ ends Stopped UNKNOWN)
+    (0 < (takes T h (b ∷ p) room).taken) ⊎ (takes T h (b ∷ p) room ≡ ends Stopped Unknown)
 unfolding takes
 takes_some T L a h b p room e l =
     let s = h ++ (b ∷ []) in
     byte_elim T h b room
-    (λ (o : Out). (0 < (turn o h (takes T s p room) (takes T [] p (room - o.tally.written))).taken)
-    ⊎ (turn o h (takes T s p room) (takes T [] p (room - o.tally.written)) ≡ ends Stopped UNKNOWN))
+    (λ (o : Out). (0 < (turn o.code h o.bytes (takes T s p room) (takes T [] p (room - o.tally.written))).taken)
+    ⊎ (turn o.code h o.bytes (takes T s p room) (takes T [] p (room - o.tally.written)) ≡ ends Stopped Unknown))
     e
     (λ u. inr refl)
     (λ i. inl (omega arith))
@@ -105,8 +105,8 @@ takes_some T L a h b p room e l =
 
 -- With room for the longest answer, a call with a piece that is not empty takes a byte, or stops on an unknown kind.
 pub progress : (T : List Row) (L : ℕ) → Longest T L → (f : State) (b : ℕ) (p : List ℕ) (room : ℕ) → L ≤ room →
-    (0 < (call T f (b ∷ p) room).taken) ⊎ (call T f (b ∷ p) room ≡ ends Stopped UNKNOWN)
+    (0 < (call T f (b ∷ p) room).taken) ⊎ (call T f (b ∷ p) room ≡ ends Stopped Unknown)
 progress T L a (Open h) b p room l =
-    by_begun (begun T h) (λ e. subst (λ (c : Call). (0 < c.taken) ⊎ (c ≡ ends Stopped UNKNOWN)) (sym (call_open T h (b ∷ p) room e)) (takes_some T L a h b p room e l))
+    by_begun (begun T h) (λ e. subst (λ (c : Call). (0 < c.taken) ⊎ (c ≡ ends Stopped Unknown)) (sym (call_open T h (b ∷ p) room e)) (takes_some T L a h b p room e l))
     (λ e. inr ((no_start T h (b ∷ p) room e).0 ∙ stopped_stays T (b ∷ p) room))
 progress T L a Stopped b p room l = inr (stopped_stays T (b ∷ p) room)

@@ -8,7 +8,8 @@ use native.Mathlib.Omega.{arith}
 use borrow.Author.Tests.{lt-ltb}
 use lib.ListN.{length, length-append}
 use Rattle.digits.specs.Digits.{word}
-use Rattle.records.specs.Codes.{CUT}
+use Rattle.records.specs.Codes.{number_s}
+use Rattle.records.specs.declared.Code.TheVariants.{Cut}
 use Rattle.records.specs.Reply.{bytes_of}
 use Rattle.records.specs.Row.{Row, row_in}
 use Rattle.records.specs.Run.{Out, stop, one}
@@ -21,17 +22,17 @@ use Rattle.feeding.proofs.CallLaws.{call_good, stopped_stays}
 
 -- ---- what is held
 
-cut_begun : (T : List Row) (h : List ℕ) (room : ℕ) → one T h room ≡ stop CUT → begun T h ≡ true
+cut_begun : (T : List Row) (h : List ℕ) (room : ℕ) → one T h room ≡ stop Cut → begun T h ≡ true
 unfolding begun one
 cut_begun T [] room e = refl
 cut_begun T (k ∷ s) room e =
     let w = (row_in T k).width in
     let x = bytes_of ((row_in T k).reply (word w s)) in
-    choose_elim (λ (o : Out). o ≡ stop CUT → begun T (k ∷ s) ≡ true) w (length s) room x
-    (λ _ q. let z : ◌≡◌ {A = ℕ} 1 2 = ap (λ (o : Out). o.code) q in absurd (omega arith))
+    choose_elim (λ (o : Out). o ≡ stop Cut → begun T (k ∷ s) ≡ true) w (length s) room x
+    (λ _ q. let z : ◌≡◌ {A = ℕ} 1 2 = ap (λ (o : Out). number_s o.code) q in absurd (omega arith))
     (λ _ l _. lt-ltb (length s) w l)
-    (λ _ _ _ q. let z : ◌≡◌ {A = ℕ} 3 2 = ap (λ (o : Out). o.code) q in absurd (omega arith))
-    (λ _ _ _ q. let z : ◌≡◌ {A = ℕ} 0 2 = ap (λ (o : Out). o.code) q in absurd (omega arith))
+    (λ _ _ _ q. let z : ◌≡◌ {A = ℕ} 3 2 = ap (λ (o : Out). number_s o.code) q in absurd (omega arith))
+    (λ _ _ _ q. let z : ◌≡◌ {A = ℕ} 0 2 = ap (λ (o : Out). number_s o.code) q in absurd (omega arith))
     e
 
 pub starts : (T : List Row) → Starts T
@@ -46,7 +47,7 @@ takes_fits T h [] room e = omega arith
 takes_fits T h (b ∷ p) room e =
     let s = h ++ (b ∷ []) in
     byte_elim T h b room
-    (λ (o : Out). length (turn o h (takes T s p room) (takes T [] p (room - o.tally.written))).bytes ≤ room)
+    (λ (o : Out). length (turn o.code h o.bytes (takes T s p room) (takes T [] p (room - o.tally.written))).bytes ≤ room)
     e
     (λ u. omega arith)
     (λ i. takes_fits T s p room i.0)
@@ -79,7 +80,7 @@ takes_ended T h (b ∷ p) room e =
     let s = h ++ (b ∷ []) in
     let m : room ≡ room - 0 = omega arith in
     byte_elim T h b room
-    (λ (o : Out). Ended T (b ∷ p) room (turn o h (takes T s p room) (takes T [] p (room - o.tally.written))))
+    (λ (o : Out). Ended T (b ∷ p) room (turn o.code h o.bytes (takes T s p room) (takes T [] p (room - o.tally.written))))
     e
     (λ u. unknown h p b refl (u (room - 0)) refl refl)
     (λ i. later T p [] b room (takes T s p room) (subst (λ (r : ℕ). Ended T p r (takes T s p room)) m (takes_ended T s p room i.0)))

@@ -8,12 +8,14 @@ use native.Mathlib.Omega.{arith}
 use borrow.Author.Tests.{lt-ltb}
 use lib.ListN.{length, take, drop, length-append, length-drop, take-append-drop}
 use lib.Seq.{drop-nil, drop-drop, drop-append-le, drop-length}
-use Rattle.records.specs.Codes.{DONE, UNKNOWN, FULL}
+use Rattle.records.specs.Codes.{number_s}
+use Rattle.records.specs.declared.Code.{Code}
+use Rattle.records.specs.declared.Code.TheVariants.{Done, Unknown, Full}
 use Rattle.records.specs.Row.{Row, row_in}
 use Rattle.records.specs.Run.{stop, one, run}
 use Rattle.records.proofs.SplitLaws.{run_ends}
 use Rattle.feeding.specs.Feed.{State, Open, Stopped, begun, Call, ends, goes, call, Close, close}
-use Rattle.feeding.specs.Host.{Offer, host, Done, Longest, Roomy, counted, offering}
+use Rattle.feeding.specs.Host.{Offer, host, Through, Longest, Roomy, counted, offering}
 use Rattle.feeding.specs.Promises.{Same, Good}
 use Rattle.feeding.proofs.TakeLaws.{goes_none, goes_goes, begun_none, call_open}
 use Rattle.feeding.proofs.RecordLaws.{ending, takes_run, refused}
@@ -36,7 +38,7 @@ host_stopped T f s (o ∷ os) e =
     host_stopped T c.feed (drop c.taken s) os (ap (λ (g : State). (call T g (take o.size s) o.room).feed) e)
 
 -- the calls in turn and one more on all that is left are one call on all
-pub host_call : (T : List Row) (f : State) (s : List ℕ) (os : List Offer) (large : ℕ) → Good T f → ((call T f s large).code ≡ FULL → ⊥) →
+pub host_call : (T : List Row) (f : State) (s : List ℕ) (os : List Offer) (large : ℕ) → Good T f → ((call T f s large).code ≡ Full → ⊥) →
     call T f s large
     ≡ goes (host T f s os).taken (host T f s os).bytes (call T (host T f s os).feed (drop (host T f s os).taken s) (large - length (host T f s os).bytes))
 unfolding host
@@ -77,7 +79,7 @@ rests : (T : List Row) (f : State) (s : List ℕ) (room : ℕ) → Good T f → 
 rests T (Open h) s room g d =
     ⊎_elim
     (λ (e : s ≡ []).
-    let c : call T (Open h) s room ≡ ends (Open h) DONE = ap (λ (y : List ℕ). call T (Open h) y room) e ∙ empty_piece T h room g in
+    let c : call T (Open h) s room ≡ ends (Open h) Done = ap (λ (y : List ℕ). call T (Open h) y room) e ∙ empty_piece T h room g in
     (ap (λ (y : Call). y.feed) c, ap (λ (y : Call). y.bytes) c))
     (λ (e : Open h ≡ Stopped). absurd (open_or e))
     d
@@ -90,23 +92,23 @@ unfolding begun
 begun_short T k s l = lt-ltb (length s) (row_in T k).width l
 
 -- what a batch that had room for all leaves, in a feed's terms
-batch_close : (T : List Row) (s : List ℕ) (room c : ℕ) → one T s room ≡ stop c → (c ≡ FULL → ⊥) → ((close T (ending T s c).feed).code ≡ c) × (((ending T s c).bytes ≡ []) × ((ending T s c).code ≡ FULL → ⊥))
+batch_close : (T : List Row) (s : List ℕ) (room : ℕ) (c : Code) → one T s room ≡ stop c → (c ≡ Full → ⊥) → ((close T (ending T s c).feed).code ≡ c) × (((ending T s c).bytes ≡ []) × ((ending T s c).code ≡ Full → ⊥))
 batch_close T s room c e n =
     refused T s room c e
-    (λ (m : ℕ). (m ≡ FULL → ⊥) → ((close T (ending T s m).feed).code ≡ m) × (((ending T s m).bytes ≡ []) × ((ending T s m).code ≡ FULL → ⊥)))
-    (λ i _. (ap (λ (y : Close). y.code) (others_close T [] (begun_none T)), (refl, λ z. omega arith)))
-    (λ k t i z _. (ap (λ (y : Close). y.code) (stopped_closes T), (refl, λ y. omega arith)))
+    (λ (m : Code). (m ≡ Full → ⊥) → ((close T (ending T s m).feed).code ≡ m) × (((ending T s m).bytes ≡ []) × ((ending T s m).code ≡ Full → ⊥)))
+    (λ i _. (ap (λ (y : Close). y.code) (others_close T [] (begun_none T)), (refl, λ z. let y : ◌≡◌ {A = ℕ} 0 3 = ap number_s z in omega arith)))
+    (λ k t i z _. (ap (λ (y : Close). y.code) (stopped_closes T), (refl, λ z. let y : ◌≡◌ {A = ℕ} 1 3 = ap number_s z in omega arith)))
     (λ k t i l _. (
       ap (λ (y : List ℕ). (close T (Open y)).code) i ∙ ap (λ (y : Close). y.code) (others_close T (k ∷ t) (begun_short T k t l)),
-      (refl, λ z. omega arith),
+      (refl, λ z. let y : ◌≡◌ {A = ℕ} 0 3 = ap number_s z in omega arith),
     ))
     (λ k t i z l f m. absurd (m refl))
     n
 
 -- Whatever pieces and rooms the calls have: once all is taken, or the feed has stopped, the answers in a row and the closing code are those of a
 -- batch over the whole stream that does not want for room.
-pub same_once_done : (T : List Row) (s : List ℕ) (os : List Offer) → Done s (host T (Open []) s os) →
-    (room : ℕ) → ((run T s room).code ≡ FULL → ⊥) → Same T (host T (Open []) s os) (run T s room)
+pub same_once_done : (T : List Row) (s : List ℕ) (os : List Offer) → Through s (host T (Open []) s os) →
+    (room : ℕ) → ((run T s room).code ≡ Full → ⊥) → Same T (host T (Open []) s os) (run T s room)
 same_once_done T s os d room n =
     let o = run T s room in
     let rest = drop o.tally.read s in
@@ -136,13 +138,13 @@ fewer T L a f [] (suc n) room k l h = inl (omega (arith, ap length (drop-nil {A 
 fewer T L a f (b ∷ s) (suc n) room k l h =
     let c = call T f (b ∷ take n s) room in
     let d = length-drop c.taken (b ∷ s) in
-    ⊎_elim (λ (i : 0 < c.taken). inl (omega arith)) (λ (i : c ≡ ends Stopped UNKNOWN). inr (ap (λ (y : Call). y.feed) i)) (progress T L a f b (take n s) room l)
+    ⊎_elim (λ (i : 0 < c.taken). inl (omega arith)) (λ (i : c ≡ ends Stopped Unknown). inr (ap (λ (y : Call). y.feed) i)) (progress T L a f b (take n s) room l)
 
 pub length_take_in : (n : ℕ) (s : List ℕ) → length (take n s) ≤ length s
 length_take_in n s = omega (arith, ap length (take-append-drop n s), length-append (take n s) (drop n s))
 
 -- Where each call has room for the longest answer, as many calls that offer a byte as the stream has bytes are enough.
-pub gets_done : (T : List Row) (L : ℕ) → Longest T L → (f : State) (s : List ℕ) (os : List Offer) → Good T f → Roomy L os → length s ≤ offering os → Done s (host T f s os)
+pub gets_done : (T : List Row) (L : ℕ) → Longest T L → (f : State) (s : List ℕ) (os : List Offer) → Good T f → Roomy L os → length s ≤ offering os → Through s (host T f s os)
 unfolding host
 gets_done T L a f s [] g r h = inl (omega arith)
 gets_done T L a f s (o ∷ os) g r h =

@@ -6,11 +6,11 @@ use Prim.Native.Nat.{ℕ, zero, suc, ◌+◌, ◌≤◌}
 use native.Mathlib.Omega.{arith}
 use lib.ListN.{length, take, drop, length-append, length-drop}
 use lib.Seq.{take_all, take-append_seam, drop-drop, drop-append-le}
-use Rattle.records.specs.Codes.{FULL}
+use Rattle.records.specs.declared.Code.TheVariants.{Full}
 use Rattle.records.specs.Row.{Row}
 use Rattle.records.specs.Run.{run}
 use Rattle.feeding.specs.Feed.{State, Open, Stopped, Call, goes, call}
-use Rattle.feeding.specs.Host.{Offer, host, Piece, stream, line, again, Done, Longest}
+use Rattle.feeding.specs.Host.{Offer, host, Piece, stream, line, again, Through, Longest}
 use Rattle.feeding.specs.Promises.{Same, Good, SamePieces}
 use Rattle.feeding.proofs.TakeLaws.{goes_none, goes_goes, begun_none}
 use Rattle.feeding.proofs.CallLaws.{call_good}
@@ -40,11 +40,11 @@ line_host T f left (p ∷ ps) g =
     ∙ ap (λ (y : List ℕ). goes (call T f y p.room).taken (call T f y p.room).bytes (host T (call T f y p.room).feed (drop (call T f y p.room).taken s) os)) (sym t)
 
 -- once all is taken, or the feed has stopped
-line_done : (T : List Row) (ps : List Piece) → Done (stream ps) (line T (Open []) [] ps) →
-    (room : ℕ) → ((run T (stream ps) room).code ≡ FULL → ⊥) → Same T (line T (Open []) [] ps) (run T (stream ps) room)
+line_done : (T : List Row) (ps : List Piece) → Through (stream ps) (line T (Open []) [] ps) →
+    (room : ℕ) → ((run T (stream ps) room).code ≡ Full → ⊥) → Same T (line T (Open []) [] ps) (run T (stream ps) room)
 line_done T ps d room n =
     let e = line_host T (Open []) [] ps (begun_none T) in
-    subst (λ (r : Call). Same T r (run T (stream ps) room)) (sym e) (same_once_done T (stream ps) (offers T (Open []) [] ps) (subst (Done (stream ps)) e d) room n)
+    subst (λ (r : Call). Same T r (run T (stream ps) room)) (sym e) (same_once_done T (stream ps) (offers T (Open []) [] ps) (subst (Through (stream ps)) e d) room n)
 
 line_append : (T : List Row) (f : State) (left : List ℕ) (ps qs : List Piece) → Good T f →
     line T f left (ps ++ qs)
@@ -78,7 +78,7 @@ line_good T f left (p ∷ ps) g =
     (r.0, omega (arith, r.1, b.1, e, length-append u (stream ps), length-append q (stream ps)))
 
 -- what is left, offered again as often as it has bytes
-settle : (T : List Row) (L : ℕ) → Longest T L → (f : State) (left : List ℕ) (n room : ℕ) → Good T f → L ≤ room → length left ≤ n → Done left (line T f left (again n room))
+settle : (T : List Row) (L : ℕ) → Longest T L → (f : State) (left : List ℕ) (n room : ℕ) → Good T f → L ≤ room → length left ≤ n → Through left (line T f left (again n room))
 unfolding line
 settle T L a f left zero room g l h = inl (omega arith)
 settle T L a f left (suc n) room g l h =
@@ -114,8 +114,8 @@ same_pieces T L a ps n more l h room z =
     let d = length-drop r.taken (stream ps) in
     let s = settle T L a r.feed left n more g.0 l (omega arith) in
     let k = line_append T (Open []) [] ps (again n more) (begun_none T) in
-    let done : Done (stream ps) (goes r.taken r.bytes (line T r.feed left (again n more))) =
+    let done : Through (stream ps) (goes r.taken r.bytes (line T r.feed left (again n more))) =
     ⊎_elim (λ (i : (line T r.feed left (again n more)).taken ≡ length left). inl (omega (arith, g.1))) inr s in
-    let all : Done (stream qs) (line T (Open []) [] qs) = subst (λ (y : List ℕ). Done y (line T (Open []) [] qs)) (sym e) (subst (Done (stream ps)) (sym k) done) in
+    let all : Through (stream qs) (line T (Open []) [] qs) = subst (λ (y : List ℕ). Through y (line T (Open []) [] qs)) (sym e) (subst (Through (stream ps)) (sym k) done) in
     subst (λ (y : List ℕ). Same T (line T (Open []) [] qs) (run T y room)) e
     (line_done T qs all room (λ y. z (ap (λ (x : List ℕ). (run T x room).code) (sym e) ∙ y)))

@@ -14,7 +14,8 @@ use Rattle.records.specs.Reply.{bytes_of}
 use Rattle.records.specs.Row.{Row, row_in}
 use Rattle.records.specs.Tally.{nothing}
 use Rattle.records.specs.declared.Tally.{Tally}
-use Rattle.records.specs.Codes.{DONE, UNKNOWN, CUT, FULL}
+use Rattle.records.specs.declared.Code.{Code}
+use Rattle.records.specs.declared.Code.TheVariants.{Done, Unknown, Cut, Full}
 use Rattle.records.specs.Run.{Out, stop, took, ahead, one, run}
 use Rattle.records.proofs.RunLaws.{choose_elim, sound, by_refused, by_took, run_stop, run_go}
 use Rattle.records.proofs.StepLaws.{choose_unknown, choose_cut, choose_full, choose_whole}
@@ -33,14 +34,14 @@ begun_front T (k ∷ s) p e =
     let g = ltb-true (length (s ++ p)) (row_in T k).width e in
     lt-ltb (length s) (row_in T k).width (omega arith)
 
-pub begun_cut : (T : List Row) (k : ℕ) (s : List ℕ) (room : ℕ) → begun T (k ∷ s) ≡ true → one T (k ∷ s) room ≡ stop CUT
+pub begun_cut : (T : List Row) (k : ℕ) (s : List ℕ) (room : ℕ) → begun T (k ∷ s) ≡ true → one T (k ∷ s) room ≡ stop Cut
 unfolding begun one
 begun_cut T k s room e =
     let w = (row_in T k).width in
     let g = ltb-true (length s) w e in
     choose_cut w (length s) room (bytes_of ((row_in T k).reply (word w s))) (λ z. omega arith) g
 
-byte_cut : (T : List Row) (h : List ℕ) (b room : ℕ) → begun T (h ++ (b ∷ [])) ≡ true → one T (h ++ (b ∷ [])) room ≡ stop CUT
+byte_cut : (T : List Row) (h : List ℕ) (b room : ℕ) → begun T (h ++ (b ∷ [])) ≡ true → one T (h ++ (b ∷ [])) room ≡ stop Cut
 byte_cut T [] b room e = begun_cut T b [] room e
 byte_cut T (k ∷ h) b room e = begun_cut T k (h ++ (b ∷ [])) room e
 
@@ -53,7 +54,7 @@ takes_start T h (b ∷ p) q room e =
     let j : s ++ p ≡ h ++ (b ∷ p) = append_snoc h b p in
     let g : begun T (s ++ p) ≡ true = ap (begun T) j ∙ e in
     let n : 1 + length p ≡ suc (length p) = omega arith in
-    ap (λ (o : Out). turn o h (takes T s (p ++ q) room) (takes T [] (p ++ q) (room - o.tally.written))) (byte_cut T h b room (begun_front T s p g))
+    ap (λ (o : Out). turn o.code h o.bytes (takes T s (p ++ q) room) (takes T [] (p ++ q) (room - o.tally.written))) (byte_cut T h b room (begun_front T s p g))
     ∙ ap (goes 1 []) (takes_start T s p q room g)
     ∙ goes_goes 1 (length p) [] [] (takes T (s ++ p) q room)
     ∙ ap (λ (m : ℕ). goes m [] (takes T (s ++ p) q room)) n
@@ -66,7 +67,7 @@ module _ (T : List Row) (k : ℕ) (h : List ℕ) (b : ℕ) (room : ℕ) (full : 
   abbrev reply : List ℕ
   reply = bytes_of ((row_in T k).reply (word (row_in T k).width (h ++ (b ∷ []))))
 
-  last_full : room < length reply → one T (k ∷ (h ++ (b ∷ []))) room ≡ stop FULL
+  last_full : room < length reply → one T (k ∷ (h ++ (b ∷ []))) room ≡ stop Full
   unfolding one
   last_full f =
       let l = length-append h (b ∷ []) in
@@ -78,17 +79,17 @@ module _ (T : List Row) (k : ℕ) (h : List ℕ) (b : ℕ) (room : ℕ) (full : 
       let l = length-append h (b ∷ []) in
       choose_whole (row_in T k).width (length (h ++ (b ∷ []))) room reply (λ z. omega arith) (omega arith) f
 
-  takes_full : (q : List ℕ) → room < length reply → takes T (k ∷ h) (b ∷ q) room ≡ ends (Open (k ∷ h)) FULL
+  takes_full : (q : List ℕ) → room < length reply → takes T (k ∷ h) (b ∷ q) room ≡ ends (Open (k ∷ h)) Full
   unfolding takes
-  takes_full q f = ap (λ (o : Out). turn o (k ∷ h) (takes T (k ∷ (h ++ (b ∷ []))) q room) (takes T [] q (room - o.tally.written))) (last_full f)
+  takes_full q f = ap (λ (o : Out). turn o.code (k ∷ h) o.bytes (takes T (k ∷ (h ++ (b ∷ []))) q room) (takes T [] q (room - o.tally.written))) (last_full f)
 
   takes_whole : (q : List ℕ) → length reply ≤ room → takes T (k ∷ h) (b ∷ q) room ≡ goes 1 reply (takes T [] q (room - length reply))
   unfolding takes
-  takes_whole q f = ap (λ (o : Out). turn o (k ∷ h) (takes T (k ∷ (h ++ (b ∷ []))) q room) (takes T [] q (room - o.tally.written))) (last_whole f)
+  takes_whole q f = ap (λ (o : Out). turn o.code (k ∷ h) o.bytes (takes T (k ∷ (h ++ (b ∷ []))) q room) (takes T [] q (room - o.tally.written))) (last_whole f)
 
-run_none : (T : List Row) (room : ℕ) → run T [] room ≡ stop DONE
+run_none : (T : List Row) (room : ℕ) → run T [] room ≡ stop Done
 unfolding one
-run_none T room = by_refused (one T) (sound T) [] room DONE refl
+run_none T room = by_refused (one T) (sound T) [] room Done refl
 
 run_single : (T : List Row) (s x : List ℕ) (w room : ℕ) → length s ≡ 1 + w → one T s room ≡ took w x → run T s room ≡ took w x
 run_single T s x w room l e =
@@ -96,7 +97,7 @@ run_single T s x w room l e =
     by_took (one T) (sound T) s room w x e
     ∙ ap (λ (t : List ℕ). ahead (took w x) (run T t (room - length x))) d
     ∙ ap (ahead (took w x)) (run_none T (room - length x))
-    ∙ ahead_stop (took w x) DONE
+    ∙ ahead_stop (took w x) Done
 
 -- ---- the rest of a record that has begun
 
@@ -158,10 +159,10 @@ module _ (T : List Row) (k : ℕ) (g p : List ℕ) (n room : ℕ) (some : n ≡ 
       ∙ takes_start T (k ∷ g) (take (n - 1) p) (last ∷ drop n p) room (begun_body T k front size)
       ∙ ap (λ (j : ℕ). goes j [] (takes T (k ∷ front) (last ∷ drop n p) room)) m
 
-  takes_no_room : room < length answer → takes T (k ∷ g) p room ≡ goes (n - 1) [] (ends (Open (take w whole)) FULL)
+  takes_no_room : room < length answer → takes T (k ∷ g) p room ≡ goes (n - 1) [] (ends (Open (take w whole)) Full)
   takes_no_room f =
       to_last ∙ ap (goes (n - 1) []) (takes_full T k front last room size (drop n p) (omega (arith, ap length answer_is)))
-      ∙ ap (λ (y : List ℕ). goes (n - 1) [] (ends (Open y) FULL)) (sym (ap (take w) whole_is ∙ take_at (k ∷ front) (last ∷ []) w size))
+      ∙ ap (λ (y : List ℕ). goes (n - 1) [] (ends (Open y) Full)) (sym (ap (take w) whole_is ∙ take_at (k ∷ front) (last ∷ []) w size))
 
   takes_answered : length answer ≤ room → takes T (k ∷ g) p room ≡ goes n answer (takes T [] (drop n p) (room - length answer))
   takes_answered f =
@@ -171,10 +172,10 @@ module _ (T : List Row) (k : ℕ) (g p : List ℕ) (n room : ℕ) (some : n ≡ 
       ∙ goes_goes (n - 1) 1 [] answer (takes T [] (drop n p) (room - length answer))
       ∙ ap (λ (j : ℕ). goes j answer (takes T [] (drop n p) (room - length answer))) m
 
-  run_no_room : room < length answer → run T whole room ≡ stop FULL
+  run_no_room : room < length answer → run T whole room ≡ stop Full
   run_no_room f =
       let o = ap (λ (y : List ℕ). one T y room) whole_is ∙ last_full T k front last room size (omega (arith, ap length answer_is)) in
-      by_refused (one T) (sound T) whole room FULL o
+      by_refused (one T) (sound T) whole room Full o
 
   run_answered : length answer ≤ room → run T whole room ≡ took w answer
   run_answered f =
@@ -183,8 +184,8 @@ module _ (T : List Row) (k : ℕ) (g p : List ℕ) (n room : ℕ) (some : n ≡ 
       (ap (λ (y : List ℕ). one T y room) whole_is ∙ last_whole T k front last room size (omega (arith, ap length answer_is)) ∙ ap (took w) answer_is)
 
   -- by a batch over the record
-  pub takes_rest : ((run T whole room ≡ stop FULL) × (takes T (k ∷ g) p room ≡ goes (n - 1) [] (ends (Open (take w whole)) FULL)))
-      ⊎ (((run T whole room).code ≡ DONE)
+  pub takes_rest : ((run T whole room ≡ stop Full) × (takes T (k ∷ g) p room ≡ goes (n - 1) [] (ends (Open (take w whole)) Full)))
+      ⊎ (((run T whole room).code ≡ Done)
       × (takes T (k ∷ g) p room ≡ goes n (run T whole room).bytes (takes T [] (drop n p) (room - (run T whole room).tally.written))))
   takes_rest =
       ⊎_elim
@@ -204,15 +205,15 @@ module _ (T : List Row) (k : ℕ) (s : List ℕ) (room : ℕ) (known : (row_in T
   unfolding begun
   one_byte = takes_start T [] (k ∷ []) s room (lt-ltb 0 v (omega (arith, known)))
 
-  record_full : room < length (bytes_of ((row_in T k).reply (word v s))) → takes T [] (k ∷ s) room ≡ goes v [] (ends (Open (take v (k ∷ s))) FULL)
+  record_full : room < length (bytes_of ((row_in T k).reply (word v s))) → takes T [] (k ∷ s) room ≡ goes v [] (ends (Open (take v (k ∷ s))) Full)
   record_full f =
       let e : 1 + v ≡ v + 1 = omega arith in
       let m : 1 + (v - 1) ≡ v = omega (arith, (body v s known there).1) in
       let held : take v (k ∷ take v s) ≡ take v (k ∷ s) = take-take v (suc v) (k ∷ s) (omega arith) in
       one_byte ∙ ap (goes 1 []) (takes_no_room T k [] s v room known there e f)
-      ∙ goes_goes 1 (v - 1) [] [] (ends (Open (take v (k ∷ take v s))) FULL)
-      ∙ ap (λ (n : ℕ). goes n [] (ends (Open (take v (k ∷ take v s))) FULL)) m
-      ∙ ap (λ (y : List ℕ). goes v [] (ends (Open y) FULL)) held
+      ∙ goes_goes 1 (v - 1) [] [] (ends (Open (take v (k ∷ take v s))) Full)
+      ∙ ap (λ (n : ℕ). goes n [] (ends (Open (take v (k ∷ take v s))) Full)) m
+      ∙ ap (λ (y : List ℕ). goes v [] (ends (Open y) Full)) held
 
   record_whole : length (bytes_of ((row_in T k).reply (word v s))) ≤ room →
       takes T [] (k ∷ s) room ≡ goes (1 + v) (bytes_of ((row_in T k).reply (word v s))) (takes T [] (drop v s) (room - length (bytes_of ((row_in T k).reply (word v s)))))
@@ -279,11 +280,11 @@ takes_records T (suc n) p room h =
 -- ---- where a batch has stopped
 
 -- what a record that was refused passed, by the code
-pub refused : (T : List Row) (d : List ℕ) (room c : ℕ) → one T d room ≡ stop c → (P : ℕ → Type 0) →
-    (d ≡ [] → P 0) →
-    ((k : ℕ) (s : List ℕ) → d ≡ k ∷ s → (row_in T k).width ≡ 0 → P 1) →
-    ((k : ℕ) (s : List ℕ) → d ≡ k ∷ s → length s < (row_in T k).width → P 2) →
-    ((k : ℕ) (s : List ℕ) → d ≡ k ∷ s → ((row_in T k).width ≡ 0 → ⊥) → (row_in T k).width ≤ length s → room < length (bytes_of ((row_in T k).reply (word (row_in T k).width s))) → P 3) →
+pub refused : (T : List Row) (d : List ℕ) (room : ℕ) (c : Code) → one T d room ≡ stop c → (P : Code → Type 0) →
+    (d ≡ [] → P Done) →
+    ((k : ℕ) (s : List ℕ) → d ≡ k ∷ s → (row_in T k).width ≡ 0 → P Unknown) →
+    ((k : ℕ) (s : List ℕ) → d ≡ k ∷ s → length s < (row_in T k).width → P Cut) →
+    ((k : ℕ) (s : List ℕ) → d ≡ k ∷ s → ((row_in T k).width ≡ 0 → ⊥) → (row_in T k).width ≤ length s → room < length (bytes_of ((row_in T k).reply (word (row_in T k).width s))) → P Full) →
     P c
 unfolding one
 refused T [] room c e P none unknown cut full = subst P (ap (λ (o : Out). o.code) e) (none refl)
@@ -298,33 +299,33 @@ refused T (k ∷ s) room c e P none unknown cut full =
     e
 
 -- how a call over d ends, by the code that a batch has for the record at its front
-abbrev pub ending : List Row → List ℕ → ℕ → Call
-ending T d zero = ends (Open []) DONE
-ending T d (suc zero) = ends Stopped UNKNOWN
-ending T d (suc (suc zero)) = goes (length d) [] (ends (Open d) DONE)
-ending T d (suc (suc (suc n))) = goes (row_in T (get_or d 0 0)).width [] (ends (Open (take (row_in T (get_or d 0 0)).width d)) FULL)
+abbrev pub ending : List Row → List ℕ → Code → Call
+ending T d Done = ends (Open []) Done
+ending T d Unknown = ends Stopped Unknown
+ending T d Cut = goes (length d) [] (ends (Open d) Done)
+ending T d Full = goes (row_in T (get_or d 0 0)).width [] (ends (Open (take (row_in T (get_or d 0 0)).width d)) Full)
 
-stop_unknown : (T : List Row) (k : ℕ) (s : List ℕ) (room : ℕ) → (row_in T k).width ≡ 0 → takes T [] (k ∷ s) room ≡ ends Stopped UNKNOWN
+stop_unknown : (T : List Row) (k : ℕ) (s : List ℕ) (room : ℕ) → (row_in T k).width ≡ 0 → takes T [] (k ∷ s) room ≡ ends Stopped Unknown
 unfolding takes one
 stop_unknown T k s room z =
     let v = (row_in T k).width in
-    ap (λ (o : Out). turn o [] (takes T (k ∷ []) s room) (takes T [] s (room - o.tally.written)))
+    ap (λ (o : Out). turn o.code [] o.bytes (takes T (k ∷ []) s room) (takes T [] s (room - o.tally.written)))
     (choose_unknown v 0 room (bytes_of ((row_in T k).reply (word v []))) z)
 
-stop_cut : (T : List Row) (d : List ℕ) (room : ℕ) → begun T d ≡ true → takes T [] d room ≡ goes (length d) [] (ends (Open d) DONE)
+stop_cut : (T : List Row) (d : List ℕ) (room : ℕ) → begun T d ≡ true → takes T [] d room ≡ goes (length d) [] (ends (Open d) Done)
 unfolding takes
 stop_cut T d room e = ap (λ (y : List ℕ). takes T [] y room) (sym (append-nil d)) ∙ takes_start T [] d [] room e
 
-takes_ending : (T : List Row) (d : List ℕ) (room c : ℕ) → one T d room ≡ stop c → takes T [] d room ≡ ending T d c
+takes_ending : (T : List Row) (d : List ℕ) (room : ℕ) (c : Code) → one T d room ≡ stop c → takes T [] d room ≡ ending T d c
 unfolding takes begun
 takes_ending T d room c e =
-    refused T d room c e (λ (n : ℕ). takes T [] d room ≡ ending T d n)
+    refused T d room c e (λ (n : Code). takes T [] d room ≡ ending T d n)
     (λ n. ap (λ (y : List ℕ). takes T [] y room) n)
     (λ k s n z. ap (λ (y : List ℕ). takes T [] y room) n ∙ stop_unknown T k s room z)
     (λ k s n l. stop_cut T d room (ap (begun T) n ∙ lt-ltb (length s) (row_in T k).width l))
     (λ k s n z l f.
     ap (λ (y : List ℕ). takes T [] y room) n ∙ record_full T k s room z l f
-    ∙ ap (λ (y : List ℕ). goes (row_in T (get_or y 0 0)).width [] (ends (Open (take (row_in T (get_or y 0 0)).width y)) FULL)) (sym n))
+    ∙ ap (λ (y : List ℕ). goes (row_in T (get_or y 0 0)).width [] (ends (Open (take (row_in T (get_or y 0 0)).width y)) Full)) (sym n))
 
 -- A call on a piece where nothing is held: a batch, and then an ending by its code.
 pub takes_run : (T : List Row) (p : List ℕ) (room : ℕ) →

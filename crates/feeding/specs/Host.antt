@@ -1,6 +1,6 @@
 -- What a host does with a feed, over any table of kinds: call by call it offers as much as it likes of the bytes that were not yet taken.
 use Rattle.std.specs.Prelude.{ℕ, zero, suc, ◌≤◌, ◌≡◌, ◌⊎◌, List, [], ◌∷◌, ◌++◌, length, take, drop}
-use Rattle.records.specs.Codes.{DONE}
+use Rattle.records.specs.declared.Code.TheVariants.{Done}
 use Rattle.records.specs.Reply.{bytes_of}
 use Rattle.records.specs.Row.{Row, row_in}
 use Rattle.feeding.specs.Feed.{State, Stopped, Call, ends, goes, call}
@@ -13,7 +13,7 @@ pub record Offer : Type 0 where
 -- Some calls in turn on a stream s: the last feed, how many bytes were taken in all, and the answers in a row. Each call begins where the one
 -- before it ceased to take, so that what that one left is offered again.
 unfoldable pub host : List Row → State → List ℕ → List Offer → Call
-host T f s [] = ends f DONE
+host T f s [] = ends f Done
 host T f s (o ∷ os) =
     let c = call T f (take o.size s) o.room in
     goes c.taken c.bytes (host T c.feed (drop c.taken s) os)
@@ -28,7 +28,7 @@ stream [] = []
 stream (p ∷ ps) = p.bytes ++ stream ps
 
 unfoldable pub line : List Row → State → List ℕ → List Piece → Call
-line T f left [] = ends f DONE
+line T f left [] = ends f Done
 line T f left (p ∷ ps) =
     let offered = left ++ p.bytes in
     let c = call T f offered p.room in
@@ -40,8 +40,8 @@ again zero room = []
 again (suc n) room = record { bytes = []; room = room } ∷ again n room
 
 -- all of s was taken, or the feed has stopped
-abbrev pub Done : List ℕ → Call → Type 0
-Done s r = (r.taken ≡ length s) ⊎ (r.feed ≡ Stopped)
+abbrev pub Through : List ℕ → Call → Type 0
+Through s r = (r.taken ≡ length s) ⊎ (r.feed ≡ Stopped)
 
 -- no answer is longer than L
 abbrev pub Longest : List Row → ℕ → Type 0

@@ -3,6 +3,7 @@
 pub mod ReplyLaws
 pub mod TallyLaws
 pub mod RunLaws
+pub mod PartLaws
 pub mod LoopLaws
 pub mod StepLaws
 pub mod SplitLaws

@@ -11,8 +11,10 @@ use Rattle.records.specs.Run.{Out, ahead, run_by}
 use Rattle.records.specs.Did.{Did}
 use Rattle.records.specs.declared.Report.{Report}
 use Rattle.records.specs.declared.Tally.{Tally}
+use Rattle.records.proofs.PartLaws.{with_rest, did_rest}
 use Rattle.records.proofs.TallyLaws.{⊞_assoc, nothing_⊞, ⊞_nothing}
-use Rattle.records.proofs.RunLaws.{Lawful, by_stop, by_go, onward_by, by_within}
+use Rattle.records.specs.Lawful.{Lawful}
+use Rattle.records.proofs.RunLaws.{by_stop, by_go, onward_by, by_within}
 
 -- What a loop keeps: what is left to do behind the tally t gives what is to be done in all.
 pub record SoFar (all rest : Out) (t : Tally) (first a : List ℕ) : Type 0 where
@@ -52,13 +54,21 @@ going_none S s a = record {
       subst (λ (k : ℕ). SoFar (run_by S s (length a)) (run_by S s k) nothing a a) e (so_far_none (run_by S s (length a)) a);
 }
 
+-- one step over what is left to read and the rest of the buffer, of which it leaves b
 module _ (S : List ℕ → ℕ → Out) (law : Lawful S) (s first a b : List ℕ) (t : Tally) (r : Report) (g : Going S s first a t)
-    (d : Did (S (drop t.read s) (length a - t.written)) r t.written a b) where
+    (rests : Did (S (take (length s - t.read) (drop t.read s)) (length (take (length a - t.written) (drop t.written a)))) r 0 (take (length a - t.written) (drop t.written a)) b) where
+  -- the buffer behind the step
+  abbrev pub after : List ℕ
+  after = with_rest t.written a b
+
+  d : Did (S (drop t.read s) (length a - t.written)) r t.written a after
+  d = did_rest S s a b t.read t.written r g.within rests
+
   -- the record at hand
   abbrev o : Out
   o = S (drop t.read s) (length a - t.written)
 
-  pub going_done : r.tally.records ≡ 0 → Did (run_by S s (length first)) (record { code = r.code; tally = t }) 0 first b
+  pub going_done : r.tally.records ≡ 0 → Did (run_by S s (length first)) (record { code = r.code; tally = t }) 0 first after
   going_done z =
       let all = run_by S s (length first) in
       let zo : o.tally.records ≡ 0 = ap (λ (x : Tally). x.records) (sym d.tally) ∙ z in
@@ -78,26 +88,26 @@ module _ (S : List ℕ → ℕ → Out) (law : Lawful S) (s first a b : List ℕ
     pub going_further : 0 < r.tally.read
     going_further = omega (arith, ap (λ (x : Tally). x.read) d.tally, went.1.0)
 
-    more : Going S s first b (t ⊞ o.tally)
+    more : Going S s first after (t ⊞ o.tally)
     more =
         let q = law (drop t.read s) (length a - t.written) in
         let all = run_by S s (length first) in
         let l = length-drop t.read s in
-        let lb : length b ≡ length a = ap length d.buffer ∙ length-sets a t.written o.bytes in
-        let e : (length a - t.written) - o.tally.written ≡ length b - (t.written + o.tally.written) = omega arith in
+        let lb : length after ≡ length a = ap length d.buffer ∙ length-sets a t.written o.bytes in
+        let e : (length a - t.written) - o.tally.written ≡ length after - (t.written + o.tally.written) = omega arith in
         let f = subst (λ (x : Out). SoFar all x t first a) (by_go S law (drop t.read s) (length a - t.written) (λ h. z (ap (λ (x : Tally). x.records) d.tally ∙ h))) g.so_far in
         record {
           inside = omega (arith, g.inside, went.1.1);
           within = omega (arith, g.within, q.fits);
           same = lb ∙ g.same;
           count = omega (arith, g.count, went.0, went.1.0);
-          so_far = subst (λ (x : Out). SoFar all x (t ⊞ o.tally) first b)
+          so_far = subst (λ (x : Out). SoFar all x (t ⊞ o.tally) first after)
               (ap (λ (x : List ℕ). run_by S x ((length a - t.written) - o.tally.written)) (drop-drop o.tally.read t.read s) ∙ ap (run_by S (drop (t.read + o.tally.read) s)) e)
-              (so_far_more all o (onward_by S (drop t.read s) (length a - t.written) o.tally) t first a b q.counts d.buffer f);
+              (so_far_more all o (onward_by S (drop t.read s) (length a - t.written) o.tally) t first a after q.counts d.buffer f);
         }
 
-    pub going_on : Going S s first b (t ⊞ r.tally)
-    going_on = subst (λ (x : Tally). Going S s first b (t ⊞ x)) (sym d.tally) more
+    pub going_on : Going S s first after (t ⊞ r.tally)
+    going_on = subst (λ (x : Tally). Going S s first after (t ⊞ x)) (sym d.tally) more
 
 -- the front that was written, and the tail that was not read
 module _ (S : List ℕ → ℕ → Out) (law : Lawful S) (s first b : List ℕ) (n : ℕ) (counts : n ≡ (run_by S s (length first)).tally.written) (holds : b ≡ sets first 0 (run_by S s (length first)).bytes) where

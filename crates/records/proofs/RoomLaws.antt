@@ -8,6 +8,7 @@ use lib.ListN.{length, drop, length-drop}
 use Rattle.digits.specs.Digits.{word}
 use Rattle.records.specs.Reply.{bytes_of}
 use Rattle.records.specs.Row.{Row, row_in}
+use Rattle.records.specs.Codes.{number_s}
 use Rattle.records.specs.Run.{Out, ahead, choose, one, run}
 use Rattle.records.proofs.RunLaws.{choose_elim, sound, run_stop, run_go, onward}
 use Rattle.records.proofs.StepLaws.{choose_unknown, choose_cut, choose_whole}
@@ -19,7 +20,7 @@ Light T = (k b : ℕ) → length (bytes_of ((row_in T k).reply b)) ≤ 2 * (1 + 
 
 -- what room enough gives
 abbrev Easy : Out → Type 0
-Easy o = (o.code ≤ 2) × (o.tally.written ≤ 2 * o.tally.read)
+Easy o = (number_s o.code ≤ 2) × (o.tally.written ≤ 2 * o.tally.read)
 
 one_easy : (T : List Row) → Light T → (s : List ℕ) (room : ℕ) → 2 * length s ≤ room → Easy (one T s room)
 unfolding one
@@ -83,7 +84,7 @@ module _ (T : List Row) (h : Light T) where
       (zero_or p.tally.records)
 
   -- a run never stops for want of room, and writes at most twice what it reads
-  pub run_easy : (s : List ℕ) (room : ℕ) → 2 * length s ≤ room → ((run T s room).code ≤ 2) × ((run T s room).tally.written ≤ 2 * (run T s room).tally.read)
+  pub run_easy : (s : List ℕ) (room : ℕ) → 2 * length s ≤ room → (number_s (run T s room).code ≤ 2) × ((run T s room).tally.written ≤ 2 * (run T s room).tally.read)
   run_easy s room l = easy (suc (length s)) s room (omega arith) l
 
   -- more room changes nothing

@@ -12,9 +12,10 @@ use Rattle.words.specs.Pick.{pick}
 use Rattle.digits.specs.Digits.{word}
 use Rattle.records.specs.Reply.{bytes_of}
 use Rattle.records.specs.Row.{Row, row_in}
-use Rattle.records.specs.Codes.{DONE, UNKNOWN, CUT, FULL}
-use Rattle.records.specs.Tally.{nothing}
+use Rattle.records.specs.declared.Code.{Code}
+use Rattle.records.specs.declared.Code.TheVariants.{Done, Unknown, Cut, Full}
 use Rattle.records.specs.Run.{Out, stop, ahead, took, choose, one, next, steps_by, run_by, run}
+use Rattle.records.specs.Lawful.{Sound, Lawful}
 use Rattle.records.specs.declared.Tally.{Tally}
 
 -- what is so of both sides of a test, under its outcome, is so of its choice
@@ -23,25 +24,18 @@ pick_elim P true a b f g = f refl
 pick_elim P false a b f g = g refl
 
 -- what is so of each outcome of the tests, under what led to it, is so of the outcome
-pub choose_elim : (P : Out → Type 0) (w left room : ℕ) (x : List ℕ) → (w ≡ 0 → P (stop UNKNOWN)) → ((w ≡ 0 → ⊥) → left < w → P (stop CUT)) →
-    ((w ≡ 0 → ⊥) → w ≤ left → room < length x → P (stop FULL)) → ((w ≡ 0 → ⊥) → w ≤ left → length x ≤ room → P (took w x)) → P (choose w left room x)
+pub choose_elim : (P : Out → Type 0) (w left room : ℕ) (x : List ℕ) → (w ≡ 0 → P (stop Unknown)) → ((w ≡ 0 → ⊥) → left < w → P (stop Cut)) →
+    ((w ≡ 0 → ⊥) → w ≤ left → room < length x → P (stop Full)) → ((w ≡ 0 → ⊥) → w ≤ left → length x ≤ room → P (took w x)) → P (choose w left room x)
 choose_elim P w left room x unknown cut full whole =
-    let third = pick (ltb room (length x)) (stop FULL) (took w x) in
-    let second = pick (ltb left w) (stop CUT) third in
-    pick_elim P (eqb w 0) (stop UNKNOWN) second (λ z. unknown (eqb-true w 0 z))
-    (λ z. pick_elim P (ltb left w) (stop CUT) third (λ c. cut (eqb-false w 0 z) (ltb-true left w c))
-    (λ c. pick_elim P (ltb room (length x)) (stop FULL) (took w x)
+    let third = pick (ltb room (length x)) (stop Full) (took w x) in
+    let second = pick (ltb left w) (stop Cut) third in
+    pick_elim P (eqb w 0) (stop Unknown) second (λ z. unknown (eqb-true w 0 z))
+    (λ z. pick_elim P (ltb left w) (stop Cut) third (λ c. cut (eqb-false w 0 z) (ltb-true left w c))
+    (λ c. pick_elim P (ltb room (length x)) (stop Full) (took w x)
     (λ f. full (eqb-false w 0 z) (ltb-false left w c) (ltb-true room (length x) f))
     (λ f. whole (eqb-false w 0 z) (ltb-false left w c) (ltb-false room (length x) f))))
 
--- a record counts nothing and writes nothing, or takes one byte at least, of those that are there, and writes within the room
-pub record Sound (s : List ℕ) (room : ℕ) (o : Out) : Type 0 where
-  pub stops : o.tally.records ≡ 0 → (o.tally ≡ nothing) × (o.bytes ≡ [])
-  pub goes : (o.tally.records ≡ 0 → ⊥) → (o.tally.records ≡ 1) × ((0 < o.tally.read) × (o.tally.read ≤ length s))
-  pub fits : o.tally.written ≤ room
-  pub counts : o.tally.written ≡ length o.bytes
-
-pub stop_sound : (s : List ℕ) (room c : ℕ) → Sound s room (stop c)
+pub stop_sound : (s : List ℕ) (room : ℕ) (c : Code) → Sound s room (stop c)
 stop_sound s room c = record { stops = λ h. (refl, refl); goes = λ h. absurd (h refl); fits = omega arith; counts = refl }
 
 pub took_sound : (k : ℕ) (s : List ℕ) (room w : ℕ) (x : List ℕ) → w ≤ length s → length x ≤ room → Sound (k ∷ s) room (took w x)
@@ -52,22 +46,18 @@ took_sound k s room w x h l = record {
   counts = refl;
 }
 
--- a step all of whose outcomes are so
-abbrev pub Lawful : (List ℕ → ℕ → Out) → Type 0
-Lawful S = (s : List ℕ) (room : ℕ) → Sound s room (S s room)
-
 -- what the tests choose is so, of a body that stands behind a byte
 pub choose_sound : (k : ℕ) (s : List ℕ) (room w : ℕ) (x : List ℕ) → Sound (k ∷ s) room (choose w (length s) room x)
 choose_sound k s room w x =
     choose_elim (Sound (k ∷ s) room) w (length s) room x
-    (λ _. stop_sound (k ∷ s) room UNKNOWN)
-    (λ _ _. stop_sound (k ∷ s) room CUT)
-    (λ _ _ _. stop_sound (k ∷ s) room FULL)
+    (λ _. stop_sound (k ∷ s) room Unknown)
+    (λ _ _. stop_sound (k ∷ s) room Cut)
+    (λ _ _ _. stop_sound (k ∷ s) room Full)
     (λ _ l f. took_sound k s room w x l f)
 
 pub sound : (T : List Row) → Lawful (one T)
 unfolding one
-sound T [] room = stop_sound [] room DONE
+sound T [] room = stop_sound [] room Done
 sound T (k ∷ s) room = let r = row_in T k in choose_sound k s room r.width (bytes_of (r.reply (word r.width s)))
 
 -- what the rest is does not matter where there is none
@@ -123,7 +113,7 @@ module _ (S : List ℕ → ℕ → Out) (q : Lawful S) where
   by_go s room h = by_law s room ∙ ap (λ (r : ℕ). next r (S s room) (onward_by S s room (S s room).tally)) ((q s room).goes h).0
 
   -- where it is known what the step does
-  pub by_refused : (s : List ℕ) (room c : ℕ) → S s room ≡ stop c → run_by S s room ≡ stop c
+  pub by_refused : (s : List ℕ) (room : ℕ) (c : Code) → S s room ≡ stop c → run_by S s room ≡ stop c
   by_refused s room c e = by_stop s room (ap (λ (o : Out). o.tally.records) e) ∙ e
 
   pub by_took : (s : List ℕ) (room w : ℕ) (x : List ℕ) → S s room ≡ took w x → run_by S s room ≡ ahead (took w x) (run_by S (drop (1 + w) s) (room - length x))

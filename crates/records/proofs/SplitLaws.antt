@@ -13,6 +13,7 @@ use Rattle.records.specs.Reply.{bytes_of}
 use Rattle.records.specs.Row.{Row, row_in}
 use Rattle.records.specs.Tally.{nothing, ◌⊞◌}
 use Rattle.records.specs.Run.{Out, stop, ahead, choose, one, run}
+use Rattle.records.specs.declared.Code.{Code}
 use Rattle.records.specs.declared.Tally.{Tally}
 use Rattle.records.proofs.TallyLaws.{⊞_assoc, nothing_⊞, ⊞_nothing}
 use Rattle.records.proofs.RunLaws.{sound, run_go, run_stop, onward, choose_elim}
@@ -29,7 +30,7 @@ ahead_none a x et eb = λ i. record {
 }
 
 -- behind anything a refusal leaves its code
-pub ahead_stop : (o : Out) (c : ℕ) → ahead o (stop c) ≡ record { code = c; tally = o.tally; bytes = o.bytes }
+pub ahead_stop : (o : Out) (c : Code) → ahead o (stop c) ≡ record { code = c; tally = o.tally; bytes = o.bytes }
 ahead_stop o c = λ i. record { code = c; tally = ⊞_nothing o.tally i; bytes = append-nil o.bytes i }
 
 -- what a record that was answered passed

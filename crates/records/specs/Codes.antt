@@ -1,18 +1,12 @@
--- Why a run stops, as a code.
+-- The number of a code, as C and the programs show it.
 use Rattle.std.specs.Prelude.{ℕ}
+use Rattle.records.specs.declared.Code.{Code}
+use Rattle.records.specs.declared.Code.TheVariants.{Done, Unknown, Cut, Full}
 
--- what was to be read is used up
-abbrev pub DONE : ℕ
-DONE = 0
-
--- a kind that is in no row; of a text, a line that is bad
-abbrev pub UNKNOWN : ℕ
-UNKNOWN = 1
-
--- an incomplete body
-abbrev pub CUT : ℕ
-CUT = 2
-
--- no room for what is to be written
-abbrev pub FULL : ℕ
-FULL = 3
+-- Done: what was to be read is used up. Unknown: a kind that is in no row; of a text, a line that is bad. Cut: an incomplete body. Full: no room
+-- for what is to be written.
+abbrev pub number_s : Code → ℕ
+number_s Done = 0
+number_s Unknown = 1
+number_s Cut = 2
+number_s Full = 3

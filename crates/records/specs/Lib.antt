@@ -4,5 +4,6 @@ pub mod Row
 pub mod Codes
 pub mod Tally
 pub mod Run
+pub mod Lawful
 pub mod Did
 pub mod Pieces

@@ -2,12 +2,17 @@
 // kind is a width and a reply. What a run does with a table is defined in specs/, and its laws are in proofs/.
 #![tactic(auto)]
 
+mod runs;
+
 ghost use Rattle.std.specs.Prelude.{◌≡◌};
 ghost use Rattle.std.proofs.lemmas.List.Edits.{sets};
 ghost use Rattle.records.specs.Reply.{bytes_of};
+ghost use Rattle.records.specs.Codes.{number_s};
 ghost use Rattle.records.specs.Tally.{nothing};
+ghost use Rattle.records.specs.declared.Code.TheVariants.{Done};
 
 use digits::put;
+pub use runs::{Step, run};
 
 // An answer before it is written: its first byte, then `width` bytes of `bits` and `more` bytes of `extra`.
 #[derive(Clone, Copy)]
@@ -43,25 +48,41 @@ pub struct Tally {
     pub written: usize,
 }
 
-// A code, which says why a run stopped (specs/Codes), and its counts.
+// Why a run stopped. Its number (specs/Codes) is what C and the programs show.
+#[derive(Clone, Copy, PartialEq, Eq)]
+pub enum Code {
+    // what was to be read is used up
+    Done,
+    // a kind that is in no row; of a text, a line that is bad
+    Unknown,
+    // an incomplete body
+    Cut,
+    // no room for what is to be written
+    Full,
+}
+
+impl From<Code> for u8 {
+    ghost from_gives = { λ code number. number ≡ number_s code };
+
+    fn from(code: Code) -> u8 {
+        match code {
+            Code::Done => 0,
+            Code::Unknown => 1,
+            Code::Cut => 2,
+            Code::Full => 3,
+        }
+    }
+}
+
+// Why a run stopped, and its counts.
 #[derive(Clone, Copy)]
 pub struct Report {
-    pub code: u8,
+    pub code: Code,
     pub tally: Tally,
 }
 
-// Why a run stopped: what was to be read is used up; a kind that is in no row, or a bad line; an incomplete body; no room for what is to be
-// written.
-pub const DONE: u8 = 0;
-
-pub const UNKNOWN: u8 = 1;
-
-pub const CUT: u8 = 2;
-
-pub const FULL: u8 = 3;
-
 // Nothing done, for the reason of a code.
-pub fn stopped(code: u8) -> Report
+pub fn stopped(code: Code) -> Report
     ensures { result ≡ record { code = code; tally = nothing } }
 {
     Report {
@@ -76,10 +97,10 @@ pub fn stopped(code: u8) -> Report
 
 // One record or line: so many bytes read, and so many written.
 pub fn took(read: usize, written: usize) -> Report
-    ensures { result ≡ record { code = 0; tally = record { records = 1; read = read; written = written } } }
+    ensures { result ≡ record { code = Done; tally = record { records = 1; read = read; written = written } } }
 {
     Report {
-        code: DONE,
+        code: Code::Done,
         tally: Tally {
             records: 1,
             read,

@@ -4,13 +4,13 @@ use mathlib.Core.Path.{◌≡◌, sym, ap, ◌∙◌, subst}
 use mathlib.Core.List.{List, ◌++◌}
 use Prim.Native.Nat.{ℕ, ◌+◌, ◌*◌, ◌^◌, ◌≤◌, ◌<◌}
 use native.Mathlib.Omega.{arith}
-use lib.ListN.{length, take, drop, get_or}
-use lib.Seq.{get_or-drop}
+use lib.ListN.{length, take, get_or}
 use Rattle.digits.specs.Digits.{word}
 use Rattle.digits.proofs.DigitLaws.{word_take, word_below}
 use Rattle.kinds.specs.Kinds.{shape_of}
 use Rattle.kinds.proofs.ShapeLaws.{body_small}
 use Rattle.records.specs.declared.Reply.{Reply}
+use Rattle.records.specs.Codes.{number_s}
 use Rattle.records.specs.Row.{row_in}
 use Rattle.replies.specs.Table.{table, reply_s}
 use Rattle.replies.proofs.TableLaws.{row_width, width_small, reply_light, reply_whole}
@@ -20,16 +20,14 @@ use Rattle.records.proofs.StopLaws.{Narrow}
 use Rattle.records.specs.Pieces.{whole}
 use Rattle.records.proofs.PieceLaws.{pieces, Roomy, pieces_are_whole}
 
--- the reply to the body of a record, by the code's steps: how many bytes the body has, their number, and the reply to it
-pub answered : (s : List ℕ) (at w k b : ℕ) (r : Reply) → ((i : ℕ) → get_or s i 0 < 256) → w ≡ (shape_of k).body → b ≡ word 8 (take w (drop at s)) → r ≡ reply_s k b →
-    r ≡ (row_in table k).reply (word w (drop at s))
-answered s at w k b r h ew eb er =
-    let t = drop at s in
+-- the reply to the body of a record, by the code's steps: how many bytes the body at the front of s has, their number, and the reply to it
+pub answered : (s : List ℕ) (w k b : ℕ) (r : Reply) → ((i : ℕ) → get_or s i 0 < 256) → w ≡ (shape_of k).body → b ≡ word 8 (take w s) → r ≡ reply_s k b →
+    r ≡ (row_in table k).reply (word w s)
+answered s w k b r h ew eb er =
     let l : w ≤ 8 = omega (arith, body_small k) in
-    let d : (i : ℕ) → get_or t i 0 < 256 = λ i. rw get_or-drop (h (at + i)) in
-    let e : b ≡ word w t = eb ∙ word_take 8 w t l in
-    let m : word w t < 256 ^ (row_in table k).width = subst (λ (n : ℕ). word w t < 256 ^ n) (ew ∙ sym (row_width k)) (word_below w t d) in
-    er ∙ ap (reply_s k) e ∙ reply_whole k (word w t) m
+    let e : b ≡ word w s = eb ∙ word_take 8 w s l in
+    let m : word w s < 256 ^ (row_in table k).width = subst (λ (n : ℕ). word w s < 256 ^ n) (ew ∙ sym (row_width k)) (word_below w s h) in
+    er ∙ ap (reply_s k) e ∙ reply_whole k (word w s) m
 
 pub table_light : Light table
 table_light = reply_light
@@ -38,7 +36,7 @@ pub table_narrow : Narrow 8 table
 table_narrow = width_small
 
 -- with room for twice the requests a batch never stops with code 3
-pub enough_room : (s : List ℕ) (room : ℕ) → 2 * length s ≤ room → (run table s room).code ≤ 2
+pub enough_room : (s : List ℕ) (room : ℕ) → 2 * length s ≤ room → number_s (run table s room).code ≤ 2
 enough_room s room l = (run_easy table table_light s room l).0
 
 -- and more room changes nothing

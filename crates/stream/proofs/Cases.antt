@@ -4,6 +4,8 @@ use mathlib.Core.Path.{◌≡◌, refl}
 use mathlib.Core.List.{List, [], ◌∷◌}
 use Prim.Native.Nat.{ℕ}
 use Rattle.digits.specs.Digits.{digits}
+use Rattle.records.specs.declared.Code.{Code}
+use Rattle.records.specs.declared.Code.TheVariants.{Done, Unknown, Cut, Full}
 use Rattle.records.specs.Reply.{bytes_of}
 use Rattle.records.specs.Row.{row_in}
 use Rattle.records.specs.Run.{Out, run, run_by, steps_by, one}
@@ -12,18 +14,18 @@ use Rattle.kinds.specs.Kinds.{shapes}
 use Rattle.replies.specs.Table.{meanings, table}
 
 -- code, records, bytes read and bytes written
-abbrev Counts : Out → ℕ → ℕ → ℕ → ℕ → Type 0
+abbrev Counts : Out → Code → ℕ → ℕ → ℕ → Type 0
 Counts o code records read written = (o.code ≡ code) × (o.tally ≡ record { records = records; read = read; written = written })
 
 -- erf of 6
 abbrev erf6 : List ℕ
 erf6 = 3 ∷ 0 ∷ 0 ∷ 0 ∷ 0 ∷ 0 ∷ 0 ∷ 24 ∷ 64 ∷ []
 
-pub whole : Counts (run table erf6 9) 0 1 9 9
+pub whole : Counts (run table erf6 9) Done 1 9 9
 unfolding run_by steps_by one row_in table meanings shapes shape_in bytes_of digits
 whole = (refl, refl)
 
-pub no_room : Counts (run table erf6 8) 3 0 0 0
+pub no_room : Counts (run table erf6 8) Full 0 0 0
 unfolding run_by steps_by one row_in table meanings shapes shape_in bytes_of digits
 no_room = (refl, refl)
 
@@ -31,15 +33,15 @@ no_room = (refl, refl)
 abbrev both6 : List ℕ
 both6 = 7 ∷ 0 ∷ 0 ∷ 0 ∷ 0 ∷ 0 ∷ 0 ∷ 24 ∷ 64 ∷ []
 
-pub both : Counts (run table both6 17) 0 1 9 17
+pub both : Counts (run table both6 17) Done 1 9 17
 unfolding run_by steps_by one row_in table meanings shapes shape_in bytes_of digits
 both = (refl, refl)
 
-pub both_no_room : Counts (run table both6 16) 3 0 0 0
+pub both_no_room : Counts (run table both6 16) Full 0 0 0
 unfolding run_by steps_by one row_in table meanings shapes shape_in bytes_of digits
 both_no_room = (refl, refl)
 
-pub both_cut : Counts (run table (7 ∷ 0 ∷ 0 ∷ 0 ∷ 0 ∷ 0 ∷ 0 ∷ 24 ∷ []) 17) 2 0 0 0
+pub both_cut : Counts (run table (7 ∷ 0 ∷ 0 ∷ 0 ∷ 0 ∷ 0 ∷ 0 ∷ 24 ∷ []) 17) Cut 0 0 0
 unfolding run_by steps_by one row_in table meanings shapes shape_in bytes_of digits
 both_cut = (refl, refl)
 
@@ -47,26 +49,26 @@ both_cut = (refl, refl)
 abbrev tgammaf1 : List ℕ
 tgammaf1 = 18 ∷ 0 ∷ 0 ∷ 128 ∷ 63 ∷ []
 
-pub single : Counts (run table tgammaf1 5) 0 1 5 5
+pub single : Counts (run table tgammaf1 5) Done 1 5 5
 unfolding run_by steps_by one row_in table meanings shapes shape_in bytes_of digits
 single = (refl, refl)
 
-pub single_no_room : Counts (run table tgammaf1 4) 3 0 0 0
+pub single_no_room : Counts (run table tgammaf1 4) Full 0 0 0
 unfolding run_by steps_by one row_in table meanings shapes shape_in bytes_of digits
 single_no_room = (refl, refl)
 
-pub single_cut : Counts (run table (18 ∷ 0 ∷ 0 ∷ 128 ∷ []) 5) 2 0 0 0
+pub single_cut : Counts (run table (18 ∷ 0 ∷ 0 ∷ 128 ∷ []) 5) Cut 0 0 0
 unfolding run_by steps_by one row_in table meanings shapes shape_in bytes_of digits
 single_cut = (refl, refl)
 
-pub cut_before_full : Counts (run table (4 ∷ 0 ∷ []) 0) 2 0 0 0
+pub cut_before_full : Counts (run table (4 ∷ 0 ∷ []) 0) Cut 0 0 0
 unfolding run_by steps_by one row_in table meanings shapes shape_in bytes_of digits
 cut_before_full = (refl, refl)
 
-pub unknown_before_cut : Counts (run table (200 ∷ []) 0) 1 0 0 0
+pub unknown_before_cut : Counts (run table (200 ∷ []) 0) Unknown 0 0 0
 unfolding run_by steps_by one row_in table meanings shapes shape_in bytes_of digits
 unknown_before_cut = (refl, refl)
 
-pub nothing : Counts (run table [] 0) 0 0 0 0
+pub nothing : Counts (run table [] 0) Done 0 0 0
 unfolding run_by steps_by one row_in table meanings shapes shape_in bytes_of digits
 nothing = (refl, refl)

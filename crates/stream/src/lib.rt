@@ -1,77 +1,53 @@
 // The request stream: a byte of kind and the argument's bits in, the answer's kind and the value's bits out, record by record.
 #![tactic(auto)]
 
-ghost use Rattle.std.specs.Prelude.{◌+◌, ◌-◌, ◌≤◌, ◌<◌, ◌^◌, ◌≡◌, length, drop};
 ghost use Rattle.replies.specs.Table.{table};
-ghost use Rattle.records.specs.Tally.{◌⊞◌};
 ghost use Rattle.records.specs.Run.{one};
 ghost use Rattle.records.specs.Did.{Did};
+ghost use Rattle.records.proofs.RunLaws.{sound};
 ghost use Rattle.stream.specs.Batch.{batch_s};
 ghost use Rattle.stream.specs.Post.{Rest, Front};
 
 use digits::get;
 use kinds::body;
-use records::{CUT, DONE, FULL, Report, Tally, UNKNOWN, stopped, took, write};
+use records::{Code, Report, Step, run, stopped, took, write};
 use replies::reply_to;
 
-// The counts of one run and then of another.
-fn add(a: Tally, b: Tally) -> Tally
-    requires { (a.records + b.records < 2 ^ 64) × ((a.read + b.read < 2 ^ 64) × (a.written + b.written < 2 ^ 64)) }
-    ensures { result ≡ a ⊞ b }
-{
-    Tally {
-        records: a.records + b.records,
-        read: a.read + b.read,
-        written: a.written + b.written,
-    }
-}
+// The records of a request stream.
+struct Records;
 
-// The record at `at`, answered at `out`.
-fn step(requests: &[u8], at: usize, answers: &mut [u8], out: usize) -> Report
-    requires { (at ≤ length requests.now) × (out ≤ length answers.old) }
-    ensures { Did (one table (drop at requests.now) (length answers.old - out)) result out answers.old answers.new }
-{
-    if requests.len() <= at {
-        return stopped(DONE);
+impl Step for Records {
+    ghost step_s = { one table };
+
+    ghost lawful = { sound table };
+
+    // The record at the front of `requests`, answered at the front of `answers`.
+    fn step(requests: &[u8], answers: &mut [u8]) -> Report {
+        let Some((&kind, rest)) = requests.split_first() else {
+            return stopped(Code::Done);
+        };
+        let width = body(kind);
+        if width == 0 {
+            return stopped(Code::Unknown);
+        }
+        if rest.len() < width {
+            return stopped(Code::Cut);
+        }
+        let r = reply_to(kind, get(rest, 0, width));
+        let n = 1 + r.width + r.more;
+        if answers.len() < n {
+            return stopped(Code::Full);
+        }
+        write(answers, 0, r);
+        took(1 + width, n)
     }
-    let kind = requests[at];
-    let width = body(kind);
-    if width == 0 {
-        return stopped(UNKNOWN);
-    }
-    let place = at + 1;
-    if requests.len() - place < width {
-        return stopped(CUT);
-    }
-    let r = reply_to(kind, get(requests, place, width));
-    let n = 1 + r.width + r.more;
-    if answers.len() - out < n {
-        return stopped(FULL);
-    }
-    write(answers, out, r);
-    took(1 + width, n)
 }
 
 // Reads whole records from the front of `requests` and writes their answers to the front of `answers`, until one of the four codes.
 pub fn batch(requests: &[u8], answers: &mut [u8]) -> Report
     ensures { Did (batch_s requests.now answers.old) result 0 answers.old answers.new }
 {
-    let mut tally = Tally {
-        records: 0,
-        read: 0,
-        written: 0,
-    };
-    loop {
-        let t = step(requests, tally.read, answers, tally.written);
-        let one = t.tally;
-        if one.records == 0 {
-            return Report {
-                code: t.code,
-                tally,
-            };
-        }
-        tally = add(tally, one);
-    }
+    run::<Records>(requests, answers)
 }
 
 // The same work, giving back the unread tail of the requests.

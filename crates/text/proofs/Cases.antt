@@ -10,6 +10,8 @@ use Rattle.hexadecimal.specs.Hex.{char_of, digit_of, hex, all_hex, value, number
 use Rattle.kinds.specs.Shape.{shape_in}
 use Rattle.kinds.specs.Kinds.{shapes}
 use Rattle.records.specs.Row.{Row, row_in}
+use Rattle.records.specs.declared.Code.{Code}
+use Rattle.records.specs.declared.Code.TheVariants.{Done, Unknown, Cut, Full}
 use Rattle.records.specs.Run.{Out, run_by, steps_by}
 use Rattle.text.specs.Quoted.{ascii}
 use Rattle.text.specs.Names.{names}
@@ -54,15 +56,15 @@ text = ascii "erff 3f800000\nerf 4018000000000000"
 abbrev requests : List ℕ
 requests = 19 ∷ 0 ∷ 0 ∷ 0x80 ∷ 0x3F ∷ 3 ∷ 0 ∷ 0 ∷ 0 ∷ 0 ∷ 0 ∷ 0 ∷ 0x18 ∷ 0x40 ∷ []
 
-abbrev out : ℕ → ℕ → ℕ → List ℕ → Out
+abbrev out : Code → ℕ → ℕ → List ℕ → Out
 out code records read x = record { code = code; tally = record { records = records; read = read; written = length x }; bytes = x }
 
-pub there : (forth names text 14 ≡ out 0 2 34 requests) × (forth names text 13 ≡ out 3 1 14 (take 5 requests))
-    × (forth names (text ++ ascii "\nerf\n") 100 ≡ out 1 2 35 requests)
+pub there : (forth names text 14 ≡ out Done 2 34 requests) × (forth names text 13 ≡ out Full 1 14 (take 5 requests))
+    × (forth names (text ++ ascii "\nerf\n") 100 ≡ out Unknown 2 35 requests)
 unfolding run_by steps_by to_request first_line digits asked asked_as begins names shapes shape_in number_s all_hex value digit_of
 there = (refl, refl, refl)
 
-pub again : (back names requests 35 ≡ out 0 2 14 (text ++ ascii "\n")) × (back names requests 34 ≡ out 3 1 5 (ascii "erff 3f800000\n"))
-    × (back names (requests ++ (5 ∷ [])) 100 ≡ out 1 2 14 (text ++ ascii "\n")) × (back names (requests ++ (19 ∷ 0 ∷ [])) 100 ≡ out 2 2 14 (text ++ ascii "\n"))
+pub again : (back names requests 35 ≡ out Done 2 14 (text ++ ascii "\n")) × (back names requests 34 ≡ out Full 1 5 (ascii "erff 3f800000\n"))
+    × (back names (requests ++ (5 ∷ [])) 100 ≡ out Unknown 2 14 (text ++ ascii "\n")) × (back names (requests ++ (19 ∷ 0 ∷ [])) 100 ≡ out Cut 2 14 (text ++ ascii "\n"))
 unfolding run_by steps_by to_line body_in line_of word names shapes shape_in hex char_of
 again = (refl, refl, refl, refl)

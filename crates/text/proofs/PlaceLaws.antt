@@ -13,7 +13,7 @@ use Rattle.words.specs.Tests.{◌=?◌}
 use Rattle.digits.specs.Digits.{word}
 use Rattle.digits.proofs.DigitLaws.{length_digits}
 use Rattle.kinds.specs.Kinds.{shape_of}
-use Rattle.records.specs.Codes.{DONE, FULL}
+use Rattle.records.specs.declared.Code.TheVariants.{Done, Full}
 use Rattle.records.specs.Run.{stop, took, choose}
 use Rattle.text.specs.Names.{Name}
 use Rattle.text.specs.Line.{asked, line_of}
@@ -65,14 +65,14 @@ front s at h = drop-cons s at 0 h ∙ ap (λ (j : ℕ). get_or s at 0 ∷ drop j
 
 -- ---- a line as a request
 module _ (n room k b : ℕ) where
-  pub as_full : room < 1 + (shape_of k).body → as_request n room (Ask k b) ≡ stop FULL
+  pub as_full : room < 1 + (shape_of k).body → as_request n room (Ask k b) ≡ stop Full
   as_full f = rw (lt-ltb room (length (record_of k b)) (omega (arith, length_record k b)))
 
   pub as_whole : 1 + (shape_of k).body ≤ room → as_request n room (Ask k b) ≡ took n (record_of k b)
   as_whole f = rw (le-ltb room (length (record_of k b)) (omega (arith, length_record k b)))
 
 module _ (N : List Name) (s : List ℕ) (at room : ℕ) where
-  pub request_end : length s ≤ at → to_request N (drop at s) room ≡ stop DONE
+  pub request_end : length s ≤ at → to_request N (drop at s) room ≡ stop Done
   unfolding to_request
   request_end h = let e : drop at s ≡ [] = drop_of_length-le s h in rw e
 
@@ -88,7 +88,7 @@ module _ (N : List Name) (s : List ℕ) (at room : ℕ) where
       ∙ ap (as_request n room) ea
 
   -- ---- a record as a line
-  pub line_end : length s ≤ at → to_line N (drop at s) room ≡ stop DONE
+  pub line_end : length s ≤ at → to_line N (drop at s) room ≡ stop Done
   unfolding to_line
   line_end h = let e : drop at s ≡ [] = drop_of_length-le s h in rw e
 

@@ -22,7 +22,7 @@ use Rattle.digits.proofs.DigitLaws.{length_digits, word_rest, word_digits}
 use Rattle.kinds.specs.Kinds.{shape_of}
 use Rattle.records.specs.Reply.{bytes_of}
 use Rattle.records.specs.Row.{Row, row_in}
-use Rattle.records.specs.Codes.{DONE}
+use Rattle.records.specs.declared.Code.TheVariants.{Done}
 use Rattle.records.specs.Run.{stop, took, ahead, choose, one, run}
 use Rattle.records.specs.declared.Reply.{Reply}
 use Rattle.records.proofs.RunLaws.{sound, by_took, by_refused}
@@ -151,15 +151,15 @@ same_answer T w s k b room e h =
     ∙ ap (λ (m : ℕ). choose m (length (digits n b)) room (bytes_of r)) (w k)
     ∙ choose_whole n (length (digits n b)) room (bytes_of r) (λ z. omega (arith, (ask_body s k b e).1)) (omega arith) h in
     let z : drop (1 + n) (record_of k b) ≡ [] = drop_of_length-le (record_of k b) (let y : length (record_of k b) ≤ 1 + n = omega arith in y) in
-    let t : run T (drop (1 + n) (record_of k b)) (room - length (bytes_of r)) ≡ stop DONE =
-    ap (λ (x : List ℕ). run T x (room - length (bytes_of r))) z ∙ by_refused (one T) (sound T) [] (room - length (bytes_of r)) DONE refl in
+    let t : run T (drop (1 + n) (record_of k b)) (room - length (bytes_of r)) ≡ stop Done =
+    ap (λ (x : List ℕ). run T x (room - length (bytes_of r))) z ∙ by_refused (one T) (sound T) [] (room - length (bytes_of r)) Done refl in
     let u : 1 + n ≡ length (record_of k b) = omega arith in
     record {
       reply = r;
       line = reply_ask T s k b e;
       answer =
-          by_took (one T) (sound T) (record_of k b) room n (bytes_of r) o ∙ ap (ahead (took n (bytes_of r))) t ∙ ahead_stop (took n (bytes_of r)) DONE
-          ∙ ap (λ (m : ℕ). record { code = DONE; tally = record { records = 1; read = m; written = length (bytes_of r) }; bytes = bytes_of r }) u;
+          by_took (one T) (sound T) (record_of k b) room n (bytes_of r) o ∙ ap (ahead (took n (bytes_of r))) t ∙ ahead_stop (took n (bytes_of r)) Done
+          ∙ ap (λ (m : ℕ). record { code = Done; tally = record { records = 1; read = m; written = length (bytes_of r) }; bytes = bytes_of r }) u;
     }
 
 -- ---- what an answer as text shows

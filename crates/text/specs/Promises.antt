@@ -7,7 +7,8 @@ use Rattle.hexadecimal.specs.declared.Number.TheVariants.{Is}
 use Rattle.kinds.specs.Kinds.{shape_of}
 use Rattle.records.specs.Reply.{bytes_of}
 use Rattle.records.specs.Row.{Row, row_in}
-use Rattle.records.specs.Codes.{DONE, UNKNOWN, CUT, FULL}
+use Rattle.records.specs.declared.Code.{Code}
+use Rattle.records.specs.declared.Code.TheVariants.{Done, Unknown, Cut, Full}
 use Rattle.records.specs.Run.{Out, run}
 use Rattle.records.specs.Pieces.{whole}
 use Rattle.records.specs.declared.Reply.{Reply}
@@ -72,28 +73,28 @@ requests_of [] = []
 requests_of (l ∷ ls) = request_of (asked names l) ++ requests_of ls
 
 -- what was done with these lines: their requests are written, so many bytes of text are read, and a code
-abbrev pub turned : ℕ → ℕ → List (List ℕ) → Out
+abbrev pub turned : Code → ℕ → List (List ℕ) → Out
 turned c read ls = record { code = c; tally = record { records = length ls; read = read; written = length (requests_of ls) }; bytes = requests_of ls }
 
 -- A text of good lines is turned into the requests of its lines, in any room that holds them.
 abbrev pub ForthGood : Type 0
-ForthGood = (s : List ℕ) (room : ℕ) → Good (lines s) → length (requests_of (lines s)) ≤ room → forth names s room ≡ turned DONE (length s) (lines s)
+ForthGood = (s : List ℕ) (room : ℕ) → Good (lines s) → length (requests_of (lines s)) ≤ room → forth names s room ≡ turned Done (length s) (lines s)
 
 -- it was stopped by a code at the line l, behind the requests of the lines a before it, and what is left begins with that line
-abbrev pub StoppedAt : ℕ → List ℕ → ℕ → List (List ℕ) → List ℕ → List (List ℕ) → Type 0
+abbrev pub StoppedAt : Code → List ℕ → ℕ → List (List ℕ) → List ℕ → List (List ℕ) → Type 0
 StoppedAt c s room a l b = (read : ℕ) × ((forth names s room ≡ turned c read a) × (lines (drop read s) ≡ l ∷ b))
 
 -- The first bad line stops it with code 1, where the requests of the lines before it have room.
 abbrev pub ForthBad : Type 0
 ForthBad =
     (s : List ℕ) (room : ℕ) (a : List (List ℕ)) (l : List ℕ) (b : List (List ℕ)) → lines s ≡ a ++ (l ∷ b) → Good a → asked names l ≡ Bad →
-    length (requests_of a) ≤ room → StoppedAt UNKNOWN s room a l b
+    length (requests_of a) ≤ room → StoppedAt Unknown s room a l b
 
 -- Behind good lines whose requests have room, a good line whose own has none stops it with code 3.
 abbrev pub ForthFull : Type 0
 ForthFull =
     (s : List ℕ) (room : ℕ) (a : List (List ℕ)) (l : List ℕ) (b : List (List ℕ)) (k v : ℕ) → lines s ≡ a ++ (l ∷ b) → Good a → asked names l ≡ Ask k v →
-    length (requests_of a) ≤ room → room < length (requests_of a) + (1 + (shape_of k).body) → StoppedAt FULL s room a l b
+    length (requests_of a) ≤ room → room < length (requests_of a) + (1 + (shape_of k).body) → StoppedAt Full s room a l b
 
 -- the newline that is missing behind an unfinished line, if that has a byte
 abbrev pub supplied : List ℕ → List ℕ
@@ -108,7 +109,7 @@ ended s = s ++ supplied (cut s).rest
 abbrev pub ThereAndBack : Type 0
 ThereAndBack =
     (s : List ℕ) (room large : ℕ) → Good (lines s) → length (requests_of (lines s)) ≤ room → length (ended s) ≤ large →
-    ((back names (forth names s room).bytes large).code ≡ DONE) × ((back names (forth names s room).bytes large).bytes ≡ ended s)
+    ((back names (forth names s room).bytes large).code ≡ Done) × ((back names (forth names s room).bytes large).bytes ≡ ended s)
 
 -- So no two such texts have the same requests, but for a last newline.
 abbrev pub OneText : Type 0
@@ -117,7 +118,7 @@ OneText =
     (forth names s room).bytes ≡ (forth names t room).bytes → ended s ≡ ended t
 
 -- what was done with the requests of these lines: the lines are written, each with its newline, and a code
-abbrev pub restored : ℕ → List (List ℕ) → Out
+abbrev pub restored : Code → List (List ℕ) → Out
 restored c ls = record { code = c; tally = record { records = length ls; read = length (requests_of ls); written = length (text_of ls) }; bytes = text_of ls }
 
 -- Behind the requests of good lines, whose text has room, a kind without a name stops the way back with code 1; a kind with a name whose body is
@@ -127,9 +128,9 @@ BackStops =
     (ls : List (List ℕ)) (k : ℕ) (s : List ℕ) (room : ℕ) → Good ls → length (text_of ls) ≤ room →
     let o = back names (requests_of ls ++ (k ∷ s)) room in
     let body = (shape_of k).body in
-    (((n : Name) → In n names → k ≡ n.kind → ⊥) → o ≡ restored UNKNOWN ls)
-    × (((n : Name) → In n names → k ≡ n.kind → length s < body → o ≡ restored CUT ls)
-    × ((n : Name) → In n names → k ≡ n.kind → body ≤ length s → room < length (text_of ls) + length (closed (line_of names k (word body s))) → o ≡ restored FULL ls))
+    (((n : Name) → In n names → k ≡ n.kind → ⊥) → o ≡ restored Unknown ls)
+    × (((n : Name) → In n names → k ≡ n.kind → length s < body → o ≡ restored Cut ls)
+    × ((n : Name) → In n names → k ≡ n.kind → body ≤ length s → room < length (text_of ls) + length (closed (line_of names k (word body s))) → o ≡ restored Full ls))
 
 -- ---- replies
 
@@ -158,7 +159,7 @@ ReplyLines T = (s : List ℕ) → (lines (replies_to T s) ≡ map (reply_to T) (
 pub record Shown (T : List Row) (s : List ℕ) (k b room : ℕ) : Type 0 where
   pub reply : Reply
   pub line : reply_to T s ≡ s ++ shown reply
-  pub answer : run T (record_of k b) room ≡ record { code = DONE; tally = record { records = 1; read = length (record_of k b); written = length (bytes_of reply) }; bytes = bytes_of reply }
+  pub answer : run T (record_of k b) room ≡ record { code = Done; tally = record { records = 1; read = length (record_of k b); written = length (bytes_of reply) }; bytes = bytes_of reply }
 
 -- Demand 2 for lines: a reply shows what is answered to the line's request, over a table whose rows are as wide as the kinds' bodies.
 abbrev pub SameAnswer : List Row → Type 0

@@ -12,7 +12,7 @@ use crate::names::{Row, name_of};
 use crate::{Asked, ask, put_all};
 use digits::get;
 use kinds::body;
-use records::{CUT, DONE, FULL, Report, Tally, UNKNOWN, stopped, took};
+use records::{Code, Report, Tally, stopped, took};
 
 // Where the line from `at` on ends: the place of its newline, or the end of the text.
 fn line_end(text: &[u8], at: usize) -> usize
@@ -44,15 +44,15 @@ fn request_step(text: &[u8], at: usize, requests: &mut [u8], out: usize) -> Repo
     ensures { Did (to_request names (drop at text.now) (length requests.old - out)) result out requests.old requests.new }
 {
     if text.len() <= at {
-        return stopped(DONE);
+        return stopped(Code::Done);
     }
     let end = line_end(text, at);
     match ask(&text[at..end]) {
-        Asked::Bad => stopped(UNKNOWN),
+        Asked::Bad => stopped(Code::Unknown),
         Asked::Ask(kind, bits) => {
             let n = 1 + body(kind);
             if requests.len() - out < n {
-                return stopped(FULL);
+                return stopped(Code::Full);
             }
             put_record(requests, out, kind, bits);
             if end < text.len() {
@@ -109,22 +109,22 @@ fn line_step(requests: &[u8], at: usize, text: &mut [u8], out: usize) -> Report
     ensures { Did (to_line names (drop at requests.now) (length text.old - out)) result out text.old text.new }
 {
     if requests.len() <= at {
-        return stopped(DONE);
+        return stopped(Code::Done);
     }
     let kind = requests[at];
     let n = name_of(kind);
     if n.length == 0 {
-        return stopped(UNKNOWN);
+        return stopped(Code::Unknown);
     }
     let width = body(kind);
     let place = at + 1;
     if requests.len() - place < width {
-        return stopped(CUT);
+        return stopped(Code::Cut);
     }
     let head = n.length;
     let length = head + 2 * width + 1;
     if text.len() - out < length {
-        return stopped(FULL);
+        return stopped(Code::Full);
     }
     put_line(text, out, n, width, get(requests, place, width));
     took(1 + width, length)

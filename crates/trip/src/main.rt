@@ -23,7 +23,7 @@ fn turned(mode: u64, asked: &[u8], answers: &mut [u8]) -> Report {
 fn told(mut output: Stdout, t: Report, answers: &[u8]) -> bool {
     let counts = t.tally;
     let mut head = [0u8; 7];
-    put(&mut head, 0, 1, t.code as u64);
+    put(&mut head, 0, 1, u8::from(t.code) as u64);
     put(&mut head, 1, 2, counts.records as u64);
     put(&mut head, 3, 2, counts.read as u64);
     put(&mut head, 5, 2, counts.written as u64);

@@ -7,6 +7,7 @@ use native.Mathlib.Omega.{arith}
 use borrow.Author.Rules.{rules}
 use lib.ListN.{length, take, drop, length-drop}
 use lib.Seq.{sets, length-sets, length-take-le}
+use Rattle.records.specs.Codes.{number_s}
 use Rattle.records.specs.Row.{row_in}
 use Rattle.records.specs.Run.{Out, run}
 use Rattle.records.specs.Did.{Did}
@@ -78,15 +79,15 @@ holding-requires c =
     let l : length c.joined-record.result ≡ 9 = search rules in
     omega (arith, l, narrow c.args.held c.args.width c.requires.1.0)
 
-pub returns-then-t-eq-FULL : goal.returns-then-t-eq-FULL
-returns-then-t-eq-FULL c =
+pub returns-in-Full : goal.returns-in-Full
+returns-in-Full c =
     let a = c.args in
     let q = c.requires in
     let bytes = c.joined-record.result in
     let t = c.batch-t in
     ⊎_elim
     (λ r. pushed _ _ _ a.answers.now t.new.answers r.1 refl (t.ensures.buffer ∙ ap (λ (y : Out). sets a.answers.now 0 y.bytes) r.0) c.holding.ensures (omega arith) refl refl)
-    (λ r. absurd (omega (arith, r.0, t.ensures.code, c.if-t-eq-FULL.true)))
+    (λ r. let z : ◌≡◌ {A = ℕ} 0 3 = ap number_s (sym r.0 ∙ sym t.ensures.code ∙ c.in-Full.is) in absurd (omega arith))
     (by_batch table a.held a.have a.width a.piece.now bytes q.0.0 q.0.1 q.1.0 q.1.1 c.joined-record.ensures (length a.answers.now))
 
 pub slice_bounds-fresh-count-2 : goal.slice_bounds-fresh-count-2
@@ -121,7 +122,7 @@ returns c =
     let o = run table (take (a.width + 1) bytes) (length a.answers.now) in
     let w = written_is (take (a.width + 1) bytes) a.answers.now t.new.answers t.result t.ensures in
     ⊎_elim
-    (λ r. absurd (c.if-t-eq-FULL.false (t.ensures.code ∙ ap (λ (y : Out). y.code) r.0)))
+    (λ r. absurd (c.in_default.not-Full (t.ensures.code ∙ ap (λ (y : Out). y.code) r.0)))
     (λ r.
     push_on table _ a.piece.now o.bytes a.answers.now t.new.answers c.fresh-r.new.answers need t.result.tally.written c.fresh-r.result _
     (r.1 ∙ ap (λ (n : ℕ). goes need o.bytes (takes table [] (drop need a.piece.now) (length a.answers.now - n))) (sym w))

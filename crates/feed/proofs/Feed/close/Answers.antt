@@ -4,6 +4,7 @@ use mathlib.Core.List.{List, []}
 use Prim.Native.Nat.{ℕ, ◌%◌, ◌≤◌, ◌<◌}
 use native.Mathlib.Omega.{arith}
 use Rattle.digits.specs.Digits.{digits}
+use Rattle.records.specs.declared.Code.TheVariants.{Done, Cut}
 use Rattle.records.specs.Row.{row_in}
 use Rattle.feeding.specs.Feed.{Open, Close, over, close}
 use Rattle.feeding.proofs.TakeLaws.{begun_none}
@@ -22,7 +23,7 @@ shut k e r i f d = subst (λ (y : Close). Shut y r) (sym i) (record { feed = f; 
 pub returns-then-have-eq0 : goal.returns-then-have-eq0
 returns-then-have-eq0 c =
     let f = c.args.self in
-    shut (close table (meant f)) (record { feed = Open []; code = 0 }) _
+    shut (close table (meant f)) (record { feed = Open []; code = Done }) _
     (ap (close table) (meant_none f c.if-have-eq0.true) ∙ (others_close table [] (begun_none table)).1) c.empty.ensures refl
 
 pub returns-then-body-have : goal.returns-then-body-have
@@ -37,7 +38,7 @@ returns c =
     let z : 0 < f.length = omega (arith, c.if-have-eq0.false) in
     let w : f.length ≤ (row_in table (f.held % 256)).width = omega (arith, c.body.ensures, c.if-body-have.false, row_width (f.held % 256)) in
     let h = digits f.length f.held in
-    shut (close table (meant f)) (record { feed = Open []; code = 2 }) _
+    shut (close table (meant f)) (record { feed = Open []; code = Cut }) _
     (ap (close table) (meant_open f (omega (arith, width_small (f.held % 256)))) ∙ (others_close table h (held_begun table f.held f.length z w)).1
     ∙ ap (λ (y : List ℕ). record { feed = Open []; code = over y }) (held_is table f.held f.length z))
     c.empty-2.ensures refl

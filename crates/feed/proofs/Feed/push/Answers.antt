@@ -5,7 +5,7 @@ use Prim.Native.Nat.{ℕ, ◌+◌, ◌%◌, ◌≤◌}
 use native.Mathlib.Omega.{arith}
 use lib.ListN.{length, take}
 use lib.Seq.{take-length}
-use Rattle.records.specs.Codes.{DONE, UNKNOWN}
+use Rattle.records.specs.declared.Code.TheVariants.{Done, Unknown}
 use Rattle.records.specs.Row.{row_in}
 use Rattle.digits.specs.Digits.{digits}
 use Rattle.feeding.specs.Feed.{State, Open, Stopped, Call, ends, goes, call}
@@ -38,7 +38,7 @@ pub returns-then-width-have : goal.returns-then-width-have
 returns-then-width-have c =
     let a = c.args in
     let w = width_is a.self.held c.body-width.result c.body-width.ensures in
-    pushed _ (ends Stopped UNKNOWN) _ a.answers.now _
+    pushed _ (ends Stopped Unknown) _ a.answers.now _
     ((held_stopped table a.self (omega (arith, c.if-have-eq0.false)) (omega (arith, w, c.if-width-have.true))).0 a.piece.now (length a.answers.now))
     refl refl c.stopped.ensures refl refl refl
 
@@ -65,7 +65,7 @@ returns-then-piece-width c =
     let h = digits a.self.length a.self.held in
     let j : take (a.self.length + length a.piece.now) c.joined-record.result ≡ h ++ a.piece.now =
     c.joined-record.ensures ∙ ap (λ (y : List ℕ). h ++ y) (take-length a.piece.now) in
-    pushed _ (goes (length a.piece.now) [] (ends (Open (h ++ a.piece.now)) DONE)) _ a.answers.now _
+    pushed _ (goes (length a.piece.now) [] (ends (Open (h ++ a.piece.now)) Done)) _ a.answers.now _
     (held_short table a.self (omega (arith, c.if-have-eq0.false)) (small a.self.held) (omega (arith, w)) a.piece.now (length a.answers.now)
     (omega (arith, w, c.if-piece-width.true)))
     refl refl (c.holding.ensures ∙ ap (λ (y : List ℕ). fields (Open y)) j) (omega arith) refl refl

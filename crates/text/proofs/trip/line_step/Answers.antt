@@ -12,6 +12,7 @@ use Rattle.hexadecimal.proofs.HexLaws.{length_hex}
 use Rattle.kinds.specs.Kinds.{shape_of}
 use Rattle.kinds.proofs.ShapeLaws.{body_small}
 use Rattle.records.specs.Run.{choose}
+use Rattle.records.specs.declared.Code.TheVariants.{Done, Unknown, Cut, Full}
 use Rattle.records.proofs.StepLaws.{choose_unknown, choose_cut, choose_full, choose_whole, did_stop, did_took}
 use Rattle.text.specs.Names.{names}
 use Rattle.text.specs.Line.{line_of}
@@ -58,7 +59,7 @@ module _ (s : List ℕ) (at room : ℕ) (here : at < length s) (n : Row) (row : 
 pub returns-then-requests-at : goal.returns-then-requests-at
 returns-then-requests-at c =
     let a = c.args in
-    did_stop _ _ 0 a.out a.text.now c.stopped.ensures
+    did_stop _ _ Done a.out a.text.now c.stopped.ensures
     (line_end names a.requests.now a.at (length a.text.now - a.out) c.if-requests-at.true)
 
 pub returns-then-n-eq0 : goal.returns-then-n-eq0
@@ -68,7 +69,7 @@ returns-then-n-eq0 c =
     let k = get_or s a.at 0 in
     let room = length a.text.now - a.out in
     let x = closed (line_of names k (word (body_in names k) (drop (a.at + 1) s))) in
-    did_stop _ _ 1 a.out a.text.now c.stopped-then-n-eq0.ensures
+    did_stop _ _ Unknown a.out a.text.now c.stopped-then-n-eq0.ensures
     (line_at names s a.at room (body_in names k) x (omega arith) refl refl
     ∙ choose_unknown (body_in names k) (length s - (a.at + 1)) room x ((said k _ c.name_of-n.ensures).none c.if-n-eq0.true))
 
@@ -84,7 +85,7 @@ returns-then-requests-place c =
     let row = c.name_of-n.ensures in
     let named = c.if-n-eq0.false in
     let body = c.body-width.ensures in
-    did_stop _ _ 2 a.out a.text.now c.stopped-then-requests-place.ensures
+    did_stop _ _ Cut a.out a.text.now c.stopped-then-requests-place.ensures
     (is_line s a.at room (omega arith) n row named w body bits refl
     ∙ choose_cut w (length s - (a.at + 1)) room (line n w bits) (omega (arith, (width_is k n row named w body).1)) (omega arith))
 
@@ -110,7 +111,7 @@ returns-then-text-out c =
     let row = c.name_of-n.ensures in
     let named = c.if-n-eq0.false in
     let body = c.body-width.ensures in
-    did_stop _ _ 3 a.out a.text.now c.stopped-then-text-out.ensures
+    did_stop _ _ Full a.out a.text.now c.stopped-then-text-out.ensures
     (is_line s a.at room (omega arith) n row named w body bits refl
     ∙ choose_full w (length s - (a.at + 1)) room (line n w bits) (omega (arith, (width_is k n row named w body).1)) (omega arith)
     (omega (arith, line_length k n row named w body bits)))

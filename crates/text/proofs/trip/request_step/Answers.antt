@@ -8,6 +8,7 @@ use lib.Seq.{sets}
 use Rattle.kinds.specs.Kinds.{shape_of}
 use Rattle.kinds.proofs.ShapeLaws.{body_small}
 use Rattle.records.specs.Did.{Did}
+use Rattle.records.specs.declared.Code.TheVariants.{Done, Unknown, Full}
 use Rattle.records.specs.declared.Report.{Report}
 use Rattle.records.proofs.StepLaws.{did_stop, did_took}
 use Rattle.text.specs.Names.{names}
@@ -43,18 +44,18 @@ module _ (s : List ℕ) (at room kind bits : ℕ) (here : at < length s) (asks :
 
   -- and is taken, where there is room and its request was written
   taken : (r : Report) (read n out : ℕ) (requests after : List ℕ) → n ≡ 1 + (shape_of kind).body → n ≤ room →
-      r ≡ record { code = 0; tally = record { records = 1; read = read; written = n } } → read ≡ 1 + more s at →
+      r ≡ record { code = Done; tally = record { records = 1; read = read; written = n } } → read ≡ 1 + more s at →
       after ≡ sets requests out (record_of kind bits) → Did (to_request names (drop at s) room) r out requests after
   taken r read n out requests after en fits er el put =
       let l = length_record kind bits in
       did_took _ r (more s at) n out (record_of kind bits) requests after
-      (er ∙ ap {B = Report} (λ (k : ℕ). record { code = 0; tally = record { records = 1; read = k; written = n } }) el)
+      (er ∙ ap {B = Report} (λ (k : ℕ). record { code = Done; tally = record { records = 1; read = k; written = n } }) el)
       (is_request ∙ as_whole (more s at) room kind bits (omega arith)) (omega arith) put
 
 pub returns-then-text-at : goal.returns-then-text-at
 returns-then-text-at c =
     let a = c.args in
-    did_stop _ _ 0 a.out a.requests.now c.stopped.ensures
+    did_stop _ _ Done a.out a.requests.now c.stopped.ensures
     (request_end names a.text.now a.at (length a.requests.now - a.out) c.if-text-at.true)
 
 pub slice_bounds-ask-end : goal.slice_bounds-ask-end
@@ -70,7 +71,7 @@ returns-then-requests-out c =
     let room = length a.requests.now - a.out in
     let k = c.in-Ask.kind in
     let b = c.in-Ask.bits in
-    did_stop _ _ 3 a.out a.requests.now c.stopped-then-requests-out.ensures
+    did_stop _ _ Full a.out a.requests.now c.stopped-then-requests-out.ensures
     (is_request s a.at room k b (omega arith) (says s a.at _ c.line_end-end.ensures (Ask k b) c.in-Ask.ensures)
     ∙ as_full (more s a.at) room k b (omega (arith, c.body-n.ensures)))
 
@@ -78,7 +79,7 @@ pub returns-in-Bad : goal.returns-in-Bad
 returns-in-Bad c =
     let a = c.args in
     let s = a.text.now in
-    did_stop _ _ 1 a.out a.requests.now c.stopped-in-Bad.ensures
+    did_stop _ _ Unknown a.out a.requests.now c.stopped-in-Bad.ensures
     (request_at names s a.at (length a.requests.now - a.out) (more s a.at) Bad (omega arith) refl
     (says s a.at _ c.line_end-end.ensures Bad c.in-Bad.ensures))
 

@@ -1,0 +1,51 @@
+-- `records::runs::run` meets its contract: each turn is one item more of the run. Assumes nothing.
+use mathlib.Core.Path.{sym, ap, subst}
+use native.Mathlib.Omega.{arith}
+use Rattle.records.specs.declared.Tally.{Tally}
+use Rattle.records.proofs.LoopLaws.{Going, going_none, going_on, going_further, going_done}
+use Rattle.records.proofs.runs.run.Goals as goal
+
+pub loop-one-init : goal.loop-one-init
+loop-one-init g c = going_none g.S.Step.step_s c.args.input.now c.args.output.now
+
+pub slice_bounds-step-count : goal.slice_bounds-step-count
+slice_bounds-step-count g c = c.loop-one.invariant.inside
+
+pub slice_bounds-step-start : goal.slice_bounds-step-start
+slice_bounds-step-start g c = c.loop-one.invariant.inside
+
+pub slice_bounds-step-count-in-loop-one : goal.slice_bounds-step-count-in-loop-one
+slice_bounds-step-count-in-loop-one g c = c.loop-one.invariant.within
+
+pub slice_bounds-step-start-in-loop-one : goal.slice_bounds-step-start-in-loop-one
+slice_bounds-step-start-in-loop-one g c = c.loop-one.invariant.within
+
+pub returns-then-one-eq0 : goal.returns-then-one-eq0
+returns-then-one-eq0 g c =
+    let l = c.loop-one in
+    going_done g.S.Step.step_s g.met.S.Step.lawful c.args.input.now c.args.output.now l.output c.step-one.new.output l.tally c.step-one.result l.invariant c.step-one.ensures
+    c.if-one-eq0.true
+
+-- where an item was taken, the loop stands further on
+pub add-tally-requires : goal.add-tally-requires
+add-tally-requires g c =
+    let l = c.loop-one in
+    let on = going_on g.S.Step.step_s g.met.S.Step.lawful c.args.input.now c.args.output.now l.output c.step-one.new.output l.tally c.step-one.result l.invariant
+    c.step-one.ensures c.if-one-eq0.false in
+    (omega (arith, on.count, on.inside), (omega (arith, on.inside), omega (arith, on.within, on.same)))
+
+pub loop-one-smaller : goal.loop-one-smaller
+loop-one-smaller g c =
+    let l = c.loop-one in
+    let on = going_on g.S.Step.step_s g.met.S.Step.lawful c.args.input.now c.args.output.now l.output c.step-one.new.output l.tally c.step-one.result l.invariant
+    c.step-one.ensures c.if-one-eq0.false in
+    let further = going_further g.S.Step.step_s g.met.S.Step.lawful c.args.input.now c.args.output.now l.output c.step-one.new.output l.tally c.step-one.result l.invariant
+    c.step-one.ensures c.if-one-eq0.false in
+    omega (arith, further, on.inside, ap (λ (x : Tally). x.read) c.add-tally.ensures)
+
+pub loop-one-preserved : goal.loop-one-preserved
+loop-one-preserved g c =
+    let l = c.loop-one in
+    subst (Going g.S.Step.step_s c.args.input.now c.args.output.now _) (sym c.add-tally.ensures)
+    (going_on g.S.Step.step_s g.met.S.Step.lawful c.args.input.now c.args.output.now l.output c.step-one.new.output l.tally c.step-one.result l.invariant
+    c.step-one.ensures c.if-one-eq0.false)
