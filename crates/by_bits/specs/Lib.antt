@@ -1,2 +1,3 @@
 -- What the functions by bits are.
 pub mod ByBits
+pub mod Nan

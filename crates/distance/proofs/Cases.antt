@@ -1,40 +1,36 @@
 -- The distance by examples, computed: across zero, at the ends, and of a NaN. Assumes nothing.
 use mathlib.Core.Path.{◌≡◌, refl}
-use Prim.Native.Nat.{ℕ}
+use Rattle.std.specs.Prelude.{None, Some}
 use lib.Ieee.{binary32, binary64, nan_bits}
 use Rattle.distance.specs.Distance.{place_s, distance_s}
-use Rattle.distance.specs.declared.Apart.{Apart}
-
-abbrev apart : ℕ → Apart
-apart n = record { code = 0; distance = n }
 
 -- the least number above zero and the least below it
-pub across_zero : (distance_s binary64 1 0x8000000000000001 ≡ apart 2) × (distance_s binary32 1 0x80000001 ≡ apart 2)
+pub across_zero : (distance_s binary64 1 0x8000000000000001 ≡ Some 2) × (distance_s binary32 1 0x80000001 ≡ Some 2)
 unfolding distance_s place_s nan_bits
 across_zero = (refl, refl)
 
 -- -0 and +0
-pub zeros_together : (distance_s binary64 0 0x8000000000000000 ≡ apart 0) × (distance_s binary32 0 0x80000000 ≡ apart 0)
+pub zeros_together : (distance_s binary64 0 0x8000000000000000 ≡ Some 0) × (distance_s binary32 0 0x80000000 ≡ Some 0)
 unfolding distance_s place_s nan_bits
 zeros_together = (refl, refl)
 
 -- the largest finite number of either sign and the infinity behind it
-pub to_infinity : (distance_s binary64 0x7FEFFFFFFFFFFFFF 0x7FF0000000000000 ≡ apart 1) × (distance_s binary32 0x7F7FFFFF 0x7F800000 ≡ apart 1)
+pub to_infinity : (distance_s binary64 0x7FEFFFFFFFFFFFFF 0x7FF0000000000000 ≡ Some 1) × (distance_s binary32 0x7F7FFFFF 0x7F800000 ≡ Some 1)
 unfolding distance_s place_s nan_bits
 to_infinity = (refl, refl)
 
-pub to_minus_infinity : (distance_s binary64 0xFFEFFFFFFFFFFFFF 0xFFF0000000000000 ≡ apart 1) × (distance_s binary32 0xFF7FFFFF 0xFF800000 ≡ apart 1)
+pub to_minus_infinity : (distance_s binary64 0xFFEFFFFFFFFFFFFF 0xFFF0000000000000 ≡ Some 1) × (distance_s binary32 0xFF7FFFFF 0xFF800000 ≡ Some 1)
 unfolding distance_s place_s nan_bits
 to_minus_infinity = (refl, refl)
 
 -- from one infinity to the other
-pub end_to_end : (distance_s binary64 0xFFF0000000000000 0x7FF0000000000000 ≡ apart 0xFFE0000000000000)
-    × (distance_s binary32 0xFF800000 0x7F800000 ≡ apart 0xFF000000)
+pub end_to_end : (distance_s binary64 0xFFF0000000000000 0x7FF0000000000000 ≡ Some 0xFFE0000000000000)
+    × (distance_s binary32 0xFF800000 0x7F800000 ≡ Some 0xFF000000)
 unfolding distance_s place_s nan_bits
 end_to_end = (refl, refl)
 
 -- the NaN next to an infinity has no distance to it
-pub of_a_nan : (distance_s binary64 0x7FF0000000000001 0x7FF0000000000000 ≡ record { code = 4; distance = 0 })
-    × (distance_s binary32 0 0xFF800001 ≡ record { code = 4; distance = 0 })
+pub of_a_nan : (distance_s binary64 0x7FF0000000000001 0x7FF0000000000000 ≡ None)
+    × (distance_s binary32 0 0xFF800001 ≡ None)
 unfolding distance_s place_s nan_bits
 of_a_nan = (refl, refl)

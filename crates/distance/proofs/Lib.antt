@@ -1,6 +1,6 @@
 -- The promises about the line of numbers, and what the contracts determine.
 pub mod Shift
-pub mod SpotLaws
+pub mod PlaceCode
 pub mod PlaceLaws
 pub mod LineLaws
 pub mod Promised

@@ -21,7 +21,7 @@ use Rattle.words.proofs.PatternLaws.{pattern_value, digits_rest}
 use Rattle.distance.specs.Distance.{place_s}
 use Rattle.distance.specs.Line.{Number}
 use Rattle.distance.proofs.Shift.{shift}
-use Rattle.distance.proofs.SpotLaws.{place_is}
+use Rattle.distance.proofs.PlaceCode.{place_is}
 
 -- ---- what a pattern stands for
 

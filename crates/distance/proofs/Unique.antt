@@ -1,12 +1,10 @@
--- Each contract determines its answer: any two answers that it allows for the same arguments coincide. Assumes nothing.
-use mathlib.Core.Path.{◌≡◌, sym, ◌∙◌}
+-- The contract determines its answer, in either width: any two answers that it allows for the same arguments coincide. Assumes nothing.
+use Rattle.std.proofs.Common.{◌≡◌, ℕ, sym, ◌∙◌, Option}
 use contract.Lifetimes.{Lfts}
-use Rattle.distance.specs.declared.Apart.{Apart}
+use denote.RattleType.{RattleType}
+use denote.Param.Laws.{Laws, IsCopy}
 use Rattle.distance.proofs.distance.Reads as distance
-use Rattle.distance.proofs.distance_f32.Reads as distance_f32
 
-pub distance_determined : (κs : Lfts 0) (a : _) (r r' : Apart) (s s' : _) → distance.Post κs a r s → distance.Post κs a r' s' → r ≡ r'
-distance_determined κs a r r' s s' p q = p ∙ sym q
-
-pub distance_f32_determined : (κs : Lfts 0) (a : _) (r r' : Apart) (s s' : _) → distance_f32.Post κs a r s → distance_f32.Post κs a r' s' → r ≡ r'
-distance_f32_determined κs a r r' s s' p q = p ∙ sym q
+pub distance_determined : (P : RattleType) (l : Laws P) (c : IsCopy P) (p : _) (d : _) (n : _) (e : _) (t : _) (f : _)
+    (κs : Lfts 1) (a : _) (r r' : Option ℕ) (s s' : _) → distance.Post P l c p d n e t f κs a r s → distance.Post P l c p d n e t f κs a r' s' → r ≡ r'
+distance_determined P l c p d n e t f κs a r r' s s' x y = x ∙ sym y

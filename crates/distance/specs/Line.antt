@@ -1,10 +1,10 @@
 -- What a place means, and what the distance promises. The line of a format's numbers is told of values: a number is a float that is no NaN, an
 -- infinity included, and -0 and +0 are equal. proofs/Promised has a proof of each promise, for both formats.
-use Rattle.std.specs.Prelude.{ℕ, zero, suc, ◌+◌, ◌-◌, ◌*◌, ◌≤◌, ◌≡◌, true, false, ◌||◌, ◌↔◌, ◌⊎◌, pos, ◌+ℤ◌, Float}
+use Rattle.std.specs.Prelude.{ℕ, zero, suc, ◌+◌, ◌-◌, ◌*◌, ◌≤◌, ◌≡◌, true, false, ◌||◌, ◌↔◌, ◌⊎◌, pos, ◌+ℤ◌, Float, None, Some}
 use Rattle.std.specs.Float.{inf, Format}
 use Rattle.std.specs.Float.Ieee.{hid, ones, top, neg, fits, of_bits, nan_bits}
 use Rattle.words.specs.Tests.{◌<·◌, ◌≤·◌, ◌=·◌, ◌<ℤ?◌}
-use Rattle.distance.specs.Distance.{place_s, distance_s}
+use Rattle.distance.specs.Distance.{place_s, distance_s, code_of, steps_of}
 
 -- a number's pattern
 abbrev pub Number : Format → ℕ → Type 0
@@ -45,28 +45,28 @@ InOrder f =
 abbrev pub NextPlace : Format → Type 0
 NextPlace f = (a b : ℕ) → Number f a → Number f b → Next f (of_bits f a) (of_bits f b) ↔ (place_s f b ≡ place_s f a +ℤ pos 1)
 
--- The code is 4 and the distance 0 where either is a NaN; the code of two numbers is 0.
+-- There is none where either is a NaN, and the code is then 4 and the number of steps 0; there is one of two numbers, and its code is 0.
 abbrev pub RefusesNan : Format → Type 0
 RefusesNan f =
     (a b : ℕ) →
-    (nan_bits f a || nan_bits f b ≡ true → distance_s f a b ≡ record { code = 4; distance = 0 })
-    × (Number f a → Number f b → (distance_s f a b).code ≡ 0)
+    (nan_bits f a || nan_bits f b ≡ true → (distance_s f a b ≡ None) × (code_of (distance_s f a b) ≡ 4) × (steps_of (distance_s f a b) ≡ 0))
+    × (Number f a → Number f b → (distance_s f a b ≡ Some (steps_of (distance_s f a b))) × (code_of (distance_s f a b) ≡ 0))
 
 -- The distance is the number of steps from one number to the other: so many lead up from one of them to the other, and no other number of steps does.
 abbrev pub CountsSteps : Format → Type 0
 CountsSteps f =
     (a b n : ℕ) → Number f a → Number f b →
-    ((distance_s f a b).distance ≡ n) ↔ (Steps f n (of_bits f a) (of_bits f b) ⊎ Steps f n (of_bits f b) (of_bits f a))
+    (distance_s f a b ≡ Some n) ↔ (Steps f n (of_bits f a) (of_bits f b) ⊎ Steps f n (of_bits f b) (of_bits f a))
 
 -- Of two numbers it is zero exactly for equal places,
 abbrev pub ZeroForSame : Format → Type 0
-ZeroForSame f = (a b : ℕ) → Number f a → Number f b → ((distance_s f a b).distance ≡ 0) ↔ (place_s f a ≡ place_s f b)
+ZeroForSame f = (a b : ℕ) → Number f a → Number f b → (distance_s f a b ≡ Some 0) ↔ (place_s f a ≡ place_s f b)
 
--- the same in either order, its code too,
+-- the same in either order, and so its code,
 abbrev pub EitherOrder : Format → Type 0
 EitherOrder f = (a b : ℕ) → distance_s f a b ≡ distance_s f b a
 
 -- and never shorter by way of a third number. That must be one, since by way of a NaN both distances are 0; of the two ends nothing is asked.
 abbrev pub NoShortcut : Format → Type 0
 NoShortcut f =
-    (a b c : ℕ) → Number f b → (distance_s f a c).distance ≤ (distance_s f a b).distance + (distance_s f b c).distance
+    (a b c : ℕ) → Number f b → steps_of (distance_s f a c) ≤ steps_of (distance_s f a b) + steps_of (distance_s f b c)

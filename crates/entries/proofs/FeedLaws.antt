@@ -1,5 +1,5 @@
 -- What the entries of the feed leave; and that its 32 bytes are read and written whole. Assumes nothing.
-use mathlib.Core.Path.{◌≡◌, ◌∙◌, subst}
+use mathlib.Core.Path.{◌≡◌, ap, ◌∙◌, subst}
 use mathlib.Core.List.{List, ◌++◌, append_assoc}
 use Prim.Native.Nat.{ℕ}
 use native.Mathlib.Omega.{arith}
@@ -8,6 +8,7 @@ use lib.ListN.{length, take, drop}
 use lib.Seq.{sets}
 use Rattle.digits.specs.Digits.{word, digits}
 use Rattle.digits.proofs.DigitLaws.{word_take_all}
+use Rattle.records.specs.Codes.{number_s}
 use Rattle.feed.specs.Post.{Pushed, Shut, push_s, close_s}
 use Rattle.feed.specs.declared.Feed.{Feed}
 use Rattle.feed.specs.declared.Fed.{Fed}
@@ -33,15 +34,15 @@ stored f t w b b₁ b₂ b₃ b₄ e p q r s =
     ∙ append_assoc (x ++ y) (digits 8 t) (digits 8 w) ∙ append_assoc x y (digits 8 t ++ digits 8 w)
 
 module _ (feed piece answers : List ℕ) where
-  pub push_kept : (f : Feed) (t : Fed) (b a : List ℕ) → length feed ≡ 32 → f ≡ feed_at feed → Pushed (push_s f piece answers) t answers a →
-      b ≡ feed_bytes t.feed t.taken t.written → Kept (push_bytes_s feed piece answers) t.code b a
-  push_kept f t b a h i d e =
+  pub push_kept : (f : Feed) (t : Fed) (n : ℕ) (b a : List ℕ) → length feed ≡ 32 → n ≡ number_s t.code → f ≡ feed_at feed → Pushed (push_s f piece answers) t answers a →
+      b ≡ feed_bytes t.feed t.taken t.written → Kept (push_bytes_s feed piece answers) n b a
+  push_kept f t n b a h k i d e =
       let p : Pushed (push_s (feed_at feed) piece answers) t answers a = subst (λ (y : Feed). Pushed (push_s y piece answers) t answers a) i d in
-      rw (eq-eqb (length feed) 32 h) (record { code = p.code; feed = rw (← p.feed, ← p.taken, ← p.written) e; answers = p.buffer })
+      rw (eq-eqb (length feed) 32 h) (record { code = k ∙ ap number_s p.code; feed = rw (← p.feed, ← p.taken, ← p.written) e; answers = p.buffer })
 
 module _ (feed : List ℕ) where
-  pub close_told : (f : Feed) (t : Closed) (b : List ℕ) → length feed ≡ 32 → f ≡ feed_at feed → Shut (close_s f) t → b ≡ feed_bytes t.feed 0 0 →
-      Told (close_bytes_s feed) t.code b
-  close_told f t b h i d e =
+  pub close_told : (f : Feed) (t : Closed) (n : ℕ) (b : List ℕ) → length feed ≡ 32 → n ≡ number_s t.code → f ≡ feed_at feed → Shut (close_s f) t → b ≡ feed_bytes t.feed 0 0 →
+      Told (close_bytes_s feed) n b
+  close_told f t n b h k i d e =
       let p : Shut (close_s (feed_at feed)) t = subst (λ (y : Feed). Shut (close_s y) t) i d in
-      rw (eq-eqb (length feed) 32 h) (record { code = p.code; feed = rw (← p.feed) e })
+      rw (eq-eqb (length feed) 32 h) (record { code = k ∙ ap number_s p.code; feed = rw (← p.feed) e })

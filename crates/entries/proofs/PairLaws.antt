@@ -13,8 +13,8 @@ use Rattle.entries.specs.Pair.{pair_of, pair_s, Given}
 use Rattle.entries.proofs.NumberLaws.{first, further, filled}
 
 module _ (x : ℕ) (pair : List ℕ) where
-  pub pair_given : (erf erfc : ℕ) (b₁ b₂ : List ℕ) → length pair ≡ 16 → erf ≡ on_bits binary64 erf_s x → erfc ≡ on_bits binary64 erfc_s x →
-      b₁ ≡ sets pair 0 (digits 8 erf) → b₂ ≡ sets b₁ 8 (digits 8 erfc) → Given (pair_s x pair) 0 b₂
+  pub pair_given : (n erf erfc : ℕ) (b₁ b₂ : List ℕ) → length pair ≡ 16 → n ≡ 0 → erf ≡ on_bits binary64 erf_s x → erfc ≡ on_bits binary64 erfc_s x →
+      b₁ ≡ sets pair 0 (digits 8 erf) → b₂ ≡ sets b₁ 8 (digits 8 erfc) → Given (pair_s x pair) n b₂
   unfolding pair_of
-  pair_given erf erfc b₁ b₂ h e f p q =
-      rw (eq-eqb (length pair) 16 h, ← e, ← f) (record { code = refl; bytes = filled pair b₂ _ 16 h (further pair b₁ b₂ _ 8 erfc (first pair b₁ erf p) q) })
+  pair_given n erf erfc b₁ b₂ h k e f p q =
+      rw (eq-eqb (length pair) 16 h, ← e, ← f) (record { code = k; bytes = filled pair b₂ _ 16 h (further pair b₁ b₂ _ 8 erfc (first pair b₁ erf p) q) })

@@ -1,5 +1,5 @@
 -- What `rvt_batch` leaves; and that a report is written whole, so that nothing is left of what stood in it. Assumes nothing.
-use mathlib.Core.Path.{◌≡◌, ◌∙◌}
+use mathlib.Core.Path.{◌≡◌, ap, ◌∙◌}
 use mathlib.Core.List.{List, append_assoc}
 use Prim.Native.Nat.{ℕ}
 use borrow.Author.Tests.{eq-eqb}
@@ -7,6 +7,7 @@ use lib.ListN.{length}
 use lib.Seq.{sets}
 use Rattle.digits.specs.Digits.{digits}
 use Rattle.stream.specs.Batch.{batch_s}
+use Rattle.records.specs.Codes.{number_s}
 use Rattle.records.specs.Did.{Did}
 use Rattle.records.specs.declared.Report.{Report}
 use Rattle.entries.specs.Batch.{report_of, call_s, Made}
@@ -20,7 +21,7 @@ told n i w b b₁ b₂ b₃ e p q r =
     filled b b₃ _ 24 e (further b b₂ b₃ _ 16 w (further b b₁ b₂ _ 8 i (first b b₁ n p) q) r) ∙ append_assoc (digits 8 n) (digits 8 i) (digits 8 w)
 
 module _ (requests answers report : List ℕ) where
-  pub made_done : (t : Report) (a b : List ℕ) → length report ≡ 24 → Did (batch_s requests answers) t 0 answers a →
-      b ≡ report_of t.tally.records t.tally.read t.tally.written → Made (call_s requests answers report) t.code a b
-  made_done t a b h d e =
-      rw (eq-eqb (length report) 24 h) (record { code = d.code; answers = d.buffer; report = rw (← d.tally) e })
+  pub made_done : (t : Report) (n : ℕ) (a b : List ℕ) → length report ≡ 24 → n ≡ number_s t.code → Did (batch_s requests answers) t 0 answers a →
+      b ≡ report_of t.tally.records t.tally.read t.tally.written → Made (call_s requests answers report) n a b
+  made_done t n a b h k d e =
+      rw (eq-eqb (length report) 24 h) (record { code = k ∙ ap number_s d.code; answers = d.buffer; report = rw (← d.tally) e })

@@ -9,6 +9,7 @@ use lib.Seq.{sets, sets-eq, take_at, drop_at, drop-drop}
 use Rattle.digits.specs.Digits.{word, digits}
 use Rattle.digits.proofs.DigitLaws.{length_digits, word_digits, word_below}
 use Rattle.kinds.specs.Kinds.{longest_answer}
+use Rattle.records.specs.Codes.{number_s}
 use Rattle.replies.specs.Table.{table}
 use Rattle.feeding.specs.Feed.{State, Open, Stopped, Call, call}
 use Rattle.feeding.specs.Host.{Roomy}
@@ -84,12 +85,12 @@ module _ (f : State) (t w : ℕ) (p a : List ℕ) (g : Good table f) (b : Held f
   c = call table f p (length a)
 
   push_is : push_bytes_s (feed_bytes (fields f) t w) p a
-      ≡ record { code = c.code; feed = feed_bytes (fields c.feed) c.taken (length c.bytes); answers = sets a 0 c.bytes }
+      ≡ record { code = number_s c.code; feed = feed_bytes (fields c.feed) c.taken (length c.bytes); answers = sets a 0 c.bytes }
   push_is =
       let e : push_s (feed_at (feed_bytes (fields f) t w)) p a ≡ c =
       ap (λ (y : Feed). call table (meant y) p (length a)) (feed_back (fields f) t w (held_word f g b) (length_word f g)) ∙ ap (λ (y : State). call table y p (length a)) (carried f g b) in
       rw (eq-eqb (length (feed_bytes (fields f) t w)) 32 (all_bytes (fields f) t w))
-      (ap (λ (y : Call). record { code = y.code; feed = feed_bytes (fields y.feed) y.taken (length y.bytes); answers = sets a 0 y.bytes }) e)
+      (ap (λ (y : Call). record { code = number_s y.code; feed = feed_bytes (fields y.feed) y.taken (length y.bytes); answers = sets a 0 y.bytes }) e)
 
   -- the answers that the host finds at the front of the buffer
   front : take (length c.bytes) (sets a 0 c.bytes) ≡ c.bytes
@@ -159,8 +160,8 @@ roomy : (ls : List Lent) → Lendable ls → Roomy longest_answer (map offer ls)
 roomy [] k = tt
 roomy (l ∷ ls) k = (k.0.0, roomy ls k.1)
 
-close_is : (f : Feed) (t w : ℕ) → Word f.held → Word f.length → (close_bytes_s (feed_bytes f t w)).code ≡ (close_s f).code
-close_is f t w h l = rw (eq-eqb (length (feed_bytes f t w)) 32 (all_bytes f t w)) (ap (λ (y : Feed). (close_s y).code) (feed_back f t w h l))
+close_is : (f : Feed) (t w : ℕ) → Word f.held → Word f.length → (close_bytes_s (feed_bytes f t w)).code ≡ number_s (close_s f).code
+close_is f t w h l = rw (eq-eqb (length (feed_bytes f t w)) 32 (all_bytes f t w)) (ap (λ (y : Feed). number_s (close_s y).code) (feed_back f t w h l))
 
 pub fed_as_batch : FedAsBatch
 fed_as_batch s b n ls k enough room free =
@@ -169,5 +170,5 @@ fed_as_batch s b n ls k enough room free =
     let e : turns (zeros 32) s ls ≡ turns (feed_bytes (fields (Open [])) 0 0) s ls = ap (λ (y : List ℕ). turns y s ls) (sym empty_is_zero) in
     let same = pushed_as_batch s b (map offer ls) (roomy ls k) enough room free in (
       ap (λ (r : Turns). r.answers) e ∙ i.answers ∙ same.0,
-      ap (λ (r : Turns). (close_bytes_s r.feed).code) e ∙ ap (λ (y : List ℕ). (close_bytes_s y).code) i.feed ∙ close_is q.feed i.taken i.written i.held i.size ∙ same.1,
+      ap (λ (r : Turns). (close_bytes_s r.feed).code) e ∙ ap (λ (y : List ℕ). (close_bytes_s y).code) i.feed ∙ close_is q.feed i.taken i.written i.held i.size ∙ ap number_s same.1,
     )

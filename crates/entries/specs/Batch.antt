@@ -3,6 +3,7 @@ use Rattle.std.specs.Prelude.{◌≡◌, List, ◌++◌, ℕ, length, eqb}
 use Rattle.std.proofs.lemmas.List.Edits.{sets}
 use Rattle.words.specs.Pick.{pick}
 use Rattle.digits.specs.Digits.{digits}
+use Rattle.records.specs.Codes.{number_s}
 use Rattle.records.specs.Run.{Out}
 use Rattle.stream.specs.Batch.{batch_s}
 
@@ -17,7 +18,7 @@ unfoldable pub report_of : ℕ → ℕ → ℕ → List ℕ
 report_of records read written = digits 8 records ++ (digits 8 read ++ digits 8 written)
 
 abbrev pub done : Out → List ℕ → Call
-done o answers = record { code = o.code; answers = sets answers 0 o.bytes; report = report_of o.tally.records o.tally.read o.tally.written }
+done o answers = record { code = number_s o.code; answers = sets answers 0 o.bytes; report = report_of o.tally.records o.tally.read o.tally.written }
 
 abbrev pub refused : List ℕ → List ℕ → Call
 refused answers report = record { code = 10; answers = answers; report = report }

@@ -4,6 +4,7 @@ use Rattle.std.specs.Prelude.{◌≡◌, List, ◌++◌, ℕ, length, drop, eqb}
 use Rattle.std.proofs.lemmas.List.Edits.{sets}
 use Rattle.words.specs.Pick.{pick}
 use Rattle.digits.specs.Digits.{word, digits}
+use Rattle.records.specs.Codes.{number_s}
 use Rattle.feed.specs.Fields.{fields}
 use Rattle.feed.specs.Post.{push_s, close_s}
 use Rattle.feed.specs.declared.Feed.{Feed}
@@ -26,7 +27,7 @@ abbrev pub push_bytes_s : List ℕ → List ℕ → List ℕ → Push
 push_bytes_s feed piece answers =
     let c = push_s (feed_at feed) piece answers in
     pick (eqb (length feed) 32)
-    (record { code = c.code; feed = feed_bytes (fields c.feed) c.taken (length c.bytes); answers = sets answers 0 c.bytes })
+    (record { code = number_s c.code; feed = feed_bytes (fields c.feed) c.taken (length c.bytes); answers = sets answers 0 c.bytes })
     (record { code = 10; feed = feed; answers = answers })
 
 -- the entry gave this code, and left the feed and the answers so
@@ -44,7 +45,7 @@ abbrev pub close_bytes_s : List ℕ → End
 close_bytes_s feed =
     let c = close_s (feed_at feed) in
     pick (eqb (length feed) 32)
-    (record { code = c.code; feed = feed_bytes (fields c.feed) 0 0 })
+    (record { code = number_s c.code; feed = feed_bytes (fields c.feed) 0 0 })
     (record { code = 10; feed = feed })
 
 pub record Told (c : End) (r : ℕ) (f : List ℕ) : Type 0 where

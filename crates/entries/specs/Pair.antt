@@ -5,7 +5,8 @@ use Rattle.words.specs.Pick.{pick}
 use Rattle.erf.specs.Erf64.{erf_s, erfc_s}
 use Rattle.by_bits.specs.ByBits.{on_bits}
 use Rattle.digits.specs.Digits.{digits}
-use Rattle.records.specs.Codes.{DONE}
+use Rattle.records.specs.Codes.{number_s}
+use Rattle.records.specs.declared.Code.TheVariants.{Done}
 
 -- a call: its code, and the pair as it leaves it
 pub record Call : Type 0 where
@@ -19,7 +20,7 @@ pair_of erf erfc = digits 8 erf ++ digits 8 erfc
 abbrev pub pair_s : ℕ → List ℕ → Call
 pair_s x pair =
     pick (eqb (length pair) 16)
-    (record { code = DONE; bytes = pair_of (on_bits binary64 erf_s x) (on_bits binary64 erfc_s x) })
+    (record { code = number_s Done; bytes = pair_of (on_bits binary64 erf_s x) (on_bits binary64 erfc_s x) })
     (record { code = 10; bytes = pair })
 
 -- the entry gave this code, and left the pair so

@@ -2,7 +2,8 @@
 use Rattle.std.specs.Prelude.{◌≡◌, List, [], ◌∷◌, ◌++◌, map, ℕ, zero, suc, ◌^◌, ◌≤◌, ◌<◌, length, take, drop}
 use Rattle.digits.specs.Digits.{word}
 use Rattle.kinds.specs.Kinds.{longest_answer}
-use Rattle.records.specs.Codes.{FULL}
+use Rattle.records.specs.Codes.{number_s}
+use Rattle.records.specs.declared.Code.TheVariants.{Full}
 use Rattle.records.specs.Run.{run}
 use Rattle.replies.specs.Table.{table}
 use Rattle.feeding.specs.Host.{Offer, offering}
@@ -46,6 +47,6 @@ offer l = record { size = l.size; room = length l.buffer }
 abbrev pub FedAsBatch : Type 0
 FedAsBatch =
     (s : List ℕ) → Bytes s → length s < 256 ^ 8 → (ls : List Lent) → Lendable ls → length s ≤ offering (map offer ls) →
-    (room : ℕ) → ((run table s room).code ≡ FULL → ⊥) →
+    (room : ℕ) → ((run table s room).code ≡ Full → ⊥) →
     let r = turns (zeros 32) s ls in
-    (r.answers ≡ (run table s room).bytes) × ((close_bytes_s r.feed).code ≡ (run table s room).code)
+    (r.answers ≡ (run table s room).bytes) × ((close_bytes_s r.feed).code ≡ number_s (run table s room).code)

@@ -42,7 +42,7 @@ pub fn rvt_feed_push(feed: &mut [u8], piece: &[u8], answers: &mut [u8]) -> u64
     let t = f.push(piece, answers);
     let next = t.feed;
     store(feed, next, t.taken, t.written);
-    t.code as u64
+    u8::from(t.code) as u64
 }
 
 // Closes the feed. One of another length is refused, and then nothing is touched.
@@ -56,5 +56,5 @@ pub fn rvt_feed_close(feed: &mut [u8]) -> u64
     let t = f.close();
     let next = t.feed;
     store(feed, next, 0, 0);
-    t.code as u64
+    u8::from(t.code) as u64
 }

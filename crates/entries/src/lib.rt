@@ -18,6 +18,7 @@ ghost use Rattle.lgammaf.specs.Lgammaf.{lgammaf_s};
 ghost use Rattle.tgammaf.specs.Tgammaf.{tgammaf_s};
 ghost use Rattle.erff.specs.Erff.{erff_s, erfcf_s};
 ghost use Rattle.by_bits.specs.ByBits.{on_bits, value_on_bits, sign_on_bits};
+ghost use Rattle.records.specs.Codes.{number_s};
 ghost use Rattle.stream.specs.Batch.{batch_s};
 ghost use Rattle.entries.specs.Post.{Reported};
 
@@ -90,10 +91,10 @@ pub fn rvt_erfcf(x: u32) -> u32
 
 // The stop code.
 pub fn rvt_batch_code(requests: &[u8], answers: &mut [u8]) -> u64
-    ensures { Reported (batch_s requests.now answers.old) (λ o. o.code) result answers.old answers.new }
+    ensures { Reported (batch_s requests.now answers.old) (λ o. number_s o.code) result answers.old answers.new }
 {
     let t = batch(requests, answers);
-    t.code as u64
+    u8::from(t.code) as u64
 }
 
 // How many records were answered.

@@ -4,7 +4,7 @@ ghost use Rattle.entries.specs.Pair.{pair_s, Given};
 use crate::REFUSED;
 use by_bits::erf_erfc_bits;
 use digits::put;
-use records::DONE;
+use records::Code;
 
 // The bytes of a pair.
 const LENGTH: usize = 16;
@@ -19,5 +19,5 @@ pub fn rvt_erf_erfc(x: u64, pair: &mut [u8]) -> u64
     let t = erf_erfc_bits(x);
     put(pair, 0, 8, t.erf);
     put(pair, 8, 8, t.erfc);
-    DONE as u64
+    u8::from(Code::Done) as u64
 }

@@ -30,5 +30,5 @@ pub fn rvt_batch(requests: &[u8], answers: &mut [u8], report: &mut [u8]) -> u64
     let t = batch(requests, answers);
     let n = t.tally;
     tell(report, n.records as u64, n.read as u64, n.written as u64);
-    t.code as u64
+    u8::from(t.code) as u64
 }

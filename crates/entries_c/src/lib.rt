@@ -11,8 +11,9 @@ ghost use Rattle.lgammaf.specs.Lgammaf.{lgammaf_s};
 ghost use Rattle.tgammaf.specs.Tgammaf.{tgammaf_s};
 ghost use Rattle.erff.specs.Erff.{erff_s, erfcf_s};
 ghost use Rattle.by_bits.specs.ByBits.{on_bits, value_on_bits, sign_on_bits};
+ghost use Rattle.records.specs.Codes.{number_s};
 ghost use Rattle.stream.specs.Batch.{batch_s};
-ghost use Rattle.distance.specs.Distance.{distance_s};
+ghost use Rattle.distance.specs.Distance.{distance_s, code_of, steps_of};
 ghost use Rattle.entries.specs.Post.{Reported};
 ghost use Rattle.entries.specs.Pair.{pair_s, Given};
 ghost use Rattle.entries.specs.Batch.{call_s, Made};
@@ -93,7 +94,7 @@ pub extern "C" fn rvt_erfcf(x: u32) -> u32
 // The stop code.
 #[unsafe(no_mangle)]
 pub extern "C" fn rvt_batch_code(requests: &[u8], answers: &mut [u8]) -> u64
-    ensures { Reported (batch_s requests.now answers.old) (λ o. o.code) result answers.old answers.new }
+    ensures { Reported (batch_s requests.now answers.old) (λ o. number_s o.code) result answers.old answers.new }
 {
     entries::rvt_batch_code(requests, answers)
 }
@@ -124,28 +125,28 @@ pub extern "C" fn rvt_batch_written(requests: &[u8], answers: &mut [u8]) -> u64
 
 #[unsafe(no_mangle)]
 pub extern "C" fn rvt_distance(a: u64, b: u64) -> u64
-    ensures { result ≡ (distance_s binary64 a b).distance }
+    ensures { result ≡ steps_of (distance_s binary64 a b) }
 {
     entries::apart::rvt_distance(a, b)
 }
 
 #[unsafe(no_mangle)]
 pub extern "C" fn rvt_distance_code(a: u64, b: u64) -> u64
-    ensures { result ≡ (distance_s binary64 a b).code }
+    ensures { result ≡ code_of (distance_s binary64 a b) }
 {
     entries::apart::rvt_distance_code(a, b)
 }
 
 #[unsafe(no_mangle)]
 pub extern "C" fn rvt_distancef(a: u32, b: u32) -> u64
-    ensures { result ≡ (distance_s binary32 a b).distance }
+    ensures { result ≡ steps_of (distance_s binary32 a b) }
 {
     entries::apart::rvt_distancef(a, b)
 }
 
 #[unsafe(no_mangle)]
 pub extern "C" fn rvt_distancef_code(a: u32, b: u32) -> u64
-    ensures { result ≡ (distance_s binary32 a b).code }
+    ensures { result ≡ code_of (distance_s binary32 a b) }
 {
     entries::apart::rvt_distancef_code(a, b)
 }

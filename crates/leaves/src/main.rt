@@ -27,10 +27,8 @@
 // An argument or an answer of 32 bits is the low half of its u64, and an i32 is its two's complement.
 #![tactic(auto)]
 
-ghost use Rattle.std.specs.Prelude.{◌+◌, ◌*◌, ◌≤◌, length};
-
 use digits::{get, put};
-use distance::{distance, distance_f32};
+use distance::distance;
 use erf::{erf, erf_erfc, erfc};
 use erff::{erfcf, erff};
 use exp::exp;
@@ -60,12 +58,6 @@ use words::fabs::fabs;
 
 const UNKNOWN: u64 = 0xffff_ffff_ffff_ffff;
 
-const NONE: [f64; 0] = [];
-
-const PP_ONE: [f64; 1] = [1.28379167095512558561e-01];
-
-const PP_TWO: [f64; 2] = [1.28379167095512558561e-01, -3.25042107247001499370e-01];
-
 const PP: [f64; 5] = [
     1.28379167095512558561e-01,
     -3.25042107247001499370e-01,
@@ -86,12 +78,6 @@ const SA: [f64; 9] = [
     -6.04244152148580987438e-02,
 ];
 
-const NONE_F32: [f32; 0] = [];
-
-const PP_ONE_F32: [f32; 1] = [1.2837916613e-01];
-
-const PP_TWO_F32: [f32; 2] = [1.2837916613e-01, -3.2504209876e-01];
-
 const PP_F32: [f32; 5] = [
     1.2837916613e-01,
     -3.2504209876e-01,
@@ -100,78 +86,82 @@ const PP_F32: [f32; 5] = [
     -2.3763017452e-05,
 ];
 
+fn low_half(x: u64) -> u32 {
+    (x % 0x1_0000_0000) as u32
+}
+
 // The 32 bits of a whole number.
 fn pattern(k: i32) -> u64 {
-    if k >= 0 {
-        return k as u64;
-    }
-    0xffff_ffff - ((0 - (k + 1)) as u64)
+    k.cast_unsigned() as u64
 }
 
-// The whole number of 32 bits.
-fn of_pattern(w: u32) -> i32 {
-    if w < 0x8000_0000 {
-        return w as i32;
-    }
-    -1 - ((0xffff_ffff - w) as i32)
-}
-
-fn number_leaf(leaf: u64, x: f64) -> u64 {
+// A leaf of f64, at x and what b stands for.
+fn answer_f64(leaf: u64, x: f64, b: u64) -> u64 {
     match leaf {
         1 => bits_of(fabs(x)),
         2 => bits_of(floor(x)),
         3 => pattern(whole(x).number),
         4 => bits_of(narrow(x)) as u64,
-        _ => UNKNOWN,
-    }
-}
-
-fn word_leaf(leaf: u64, x: f64, w: u32) -> u64 {
-    match leaf {
         5 => get_high_word(x) as u64,
         6 => get_low_word(x) as u64,
         7 => sign(x) as u64,
         8 => size_word(x) as u64,
-        9 => bits_of(with_set_high_word(x, w)),
-        10 => bits_of(with_set_low_word(x, w)),
-        _ => UNKNOWN,
-    }
-}
-
-fn fraction_leaf(leaf: u64, x: f64) -> u64 {
-    match leaf {
+        9 => bits_of(with_set_high_word(x, low_half(b))),
+        10 => bits_of(with_set_low_word(x, low_half(b))),
         12 => whole(x).fraction as u64,
-        _ => UNKNOWN,
-    }
-}
-
-fn horner_leaf(leaf: u64, x: f64) -> u64 {
-    match leaf {
-        16 => bits_of(horner(&NONE, x)),
-        17 => bits_of(horner(&PP_ONE, x)),
-        18 => bits_of(horner(&PP_TWO, x)),
+        16 => bits_of(horner(&PP[..0], x)),
+        17 => bits_of(horner(&PP[..1], x)),
+        18 => bits_of(horner(&PP[..2], x)),
         19 => bits_of(horner(&PP, x)),
         20 => bits_of(horner(&SA, x)),
+        64 => bits_of(scalbn(x, low_half(b).cast_signed())),
+        65 => bits_of(exp(x)),
+        66 => bits_of(log(x)),
+        67 => bits_of(k_sin(x, of_bits(b), 1)),
+        68 => bits_of(k_sin(x, 0.0, 0)),
+        69 => bits_of(k_cos(x, of_bits(b))),
+        70 => bits_of(sqrt(x)),
+        71 => bits_of(pow(x, of_bits(b))),
+        72 => bits_of(k_sinf(x)) as u64,
+        73 => bits_of(k_cosf(x)) as u64,
+        _ => function(leaf, x),
+    }
+}
+
+// One of the functions.
+fn function(leaf: u64, x: f64) -> u64 {
+    match leaf {
+        80 => bits_of(erf(x)),
+        81 => bits_of(erfc(x)),
+        82 => bits_of(lgamma_r(x).value),
+        83 => pattern(lgamma_r(x).sign),
+        84 => bits_of(tgamma(x)),
+        85 => bits_of(erf_erfc(x).erf),
+        86 => bits_of(erf_erfc(x).erfc),
         _ => UNKNOWN,
     }
 }
 
-fn number_leaf_f32(leaf: u64, x: f32) -> u64 {
+// A leaf of f32, at x and what b stands for.
+fn answer_f32(leaf: u64, x: f32, b: u32) -> u64 {
     match leaf {
         33 => bits_of(fabs(x)) as u64,
         34 => bits_of(floor(x)) as u64,
         35 => pattern(wholef(x).number),
         36 => sign(x) as u64,
         37 => size_word(x) as u64,
-        _ => UNKNOWN,
-    }
-}
-
-fn power_leaf_f32(leaf: u64, x: f32, n: i32) -> u64 {
-    match leaf {
         38 => bits_of(expf(x)) as u64,
         39 => bits_of(logf(x)) as u64,
-        40 => bits_of(scalbn(x, n)) as u64,
+        40 => bits_of(scalbn(x, b.cast_signed())) as u64,
+        41 => bits_of(erff(x)) as u64,
+        42 => bits_of(erfcf(x)) as u64,
+        43 => sign_and_value(x),
+        44 => bits_of(tgammaf(x)) as u64,
+        45 => wholef(x).fraction as u64,
+        48 => bits_of(horner(&PP_F32[..0], x)) as u64,
+        49 => bits_of(horner(&PP_F32[..1], x)) as u64,
+        50 => bits_of(horner(&PP_F32[..2], x)) as u64,
+        51 => bits_of(horner(&PP_F32, x)) as u64,
         _ => UNKNOWN,
     }
 }
@@ -179,164 +169,39 @@ fn power_leaf_f32(leaf: u64, x: f32, n: i32) -> u64 {
 // Its sign's 32 bits above the value's.
 fn sign_and_value(x: f32) -> u64 {
     let t = lgammaf_r(x);
-    low_half(pattern(t.sign)) as u64 * 0x1_0000_0000 + bits_of(t.value) as u64
+    t.sign.cast_unsigned() as u64 * 0x1_0000_0000 + bits_of(t.value) as u64
 }
 
-fn function_leaf_f32(leaf: u64, x: f32) -> u64 {
-    match leaf {
-        41 => bits_of(erff(x)) as u64,
-        42 => bits_of(erfcf(x)) as u64,
-        43 => sign_and_value(x),
-        44 => bits_of(tgammaf(x)) as u64,
-        _ => UNKNOWN,
+// The code of a distance.
+fn code(apart: Option<u64>) -> u64 {
+    match apart {
+        Some(_) => 0,
+        None => 4,
     }
-}
-
-fn fraction_leaf_f32(leaf: u64, x: f32) -> u64 {
-    match leaf {
-        45 => wholef(x).fraction as u64,
-        _ => UNKNOWN,
-    }
-}
-
-fn horner_leaf_f32(leaf: u64, x: f32) -> u64 {
-    match leaf {
-        48 => bits_of(horner(&NONE_F32, x)) as u64,
-        49 => bits_of(horner(&PP_ONE_F32, x)) as u64,
-        50 => bits_of(horner(&PP_TWO_F32, x)) as u64,
-        51 => bits_of(horner(&PP_F32, x)) as u64,
-        _ => UNKNOWN,
-    }
-}
-
-fn power_leaf(leaf: u64, x: f64, n: i32) -> u64 {
-    match leaf {
-        64 => bits_of(scalbn(x, n)),
-        65 => bits_of(exp(x)),
-        _ => UNKNOWN,
-    }
-}
-
-fn function_leaf(leaf: u64, x: f64, y: f64) -> u64 {
-    match leaf {
-        66 => bits_of(log(x)),
-        67 => bits_of(k_sin(x, y, 1)),
-        68 => bits_of(k_sin(x, 0.0, 0)),
-        69 => bits_of(k_cos(x, y)),
-        70 => bits_of(sqrt(x)),
-        71 => bits_of(pow(x, y)),
-        72 => bits_of(k_sinf(x)) as u64,
-        73 => bits_of(k_cosf(x)) as u64,
-        _ => UNKNOWN,
-    }
-}
-
-fn error_leaf(leaf: u64, x: f64) -> u64 {
-    match leaf {
-        80 => bits_of(erf(x)),
-        81 => bits_of(erfc(x)),
-        85 => bits_of(erf_erfc(x).erf),
-        86 => bits_of(erf_erfc(x).erfc),
-        _ => UNKNOWN,
-    }
-}
-
-fn gamma_leaf(leaf: u64, x: f64) -> u64 {
-    match leaf {
-        82 => bits_of(lgamma_r(x).value),
-        83 => pattern(lgamma_r(x).sign),
-        84 => bits_of(tgamma(x)),
-        _ => UNKNOWN,
-    }
-}
-
-fn distance_leaf(leaf: u64, a: u64, b: u64) -> u64 {
-    match leaf {
-        96 => distance(a, b).distance,
-        97 => distance(a, b).code as u64,
-        98 => distance_f32(low_half(a), low_half(b)).distance,
-        99 => distance_f32(low_half(a), low_half(b)).code as u64,
-        _ => UNKNOWN,
-    }
-}
-
-fn low_half(x: u64) -> u32 {
-    (x % 0x1_0000_0000) as u32
-}
-
-// The answer of a leaf of f32.
-fn answer_f32(leaf: u64, x: f32, n: i32) -> u64 {
-    if leaf < 38 {
-        return number_leaf_f32(leaf, x);
-    }
-    if leaf < 41 {
-        return power_leaf_f32(leaf, x, n);
-    }
-    if leaf < 45 {
-        return function_leaf_f32(leaf, x);
-    }
-    if leaf < 48 {
-        return fraction_leaf_f32(leaf, x);
-    }
-    horner_leaf_f32(leaf, x)
 }
 
 // The answer of one leaf.
 fn answer(leaf: u64, a: u64, b: u64) -> u64 {
-    if leaf < 5 {
-        return number_leaf(leaf, of_bits(a));
+    match leaf {
+        33..=51 => answer_f32(leaf, of_bits(low_half(a)), low_half(b)),
+        96 => distance(a, b).unwrap_or(0),
+        97 => code(distance(a, b)),
+        98 => distance(low_half(a), low_half(b)).unwrap_or(0),
+        99 => code(distance(low_half(a), low_half(b))),
+        _ => answer_f64(leaf, of_bits(a), b),
     }
-    if leaf < 12 {
-        return word_leaf(leaf, of_bits(a), low_half(b));
-    }
-    if leaf < 16 {
-        return fraction_leaf(leaf, of_bits(a));
-    }
-    if leaf < 32 {
-        return horner_leaf(leaf, of_bits(a));
-    }
-    if leaf < 64 {
-        return answer_f32(leaf, of_bits(low_half(a)), of_pattern(low_half(b)));
-    }
-    if leaf < 66 {
-        return power_leaf(leaf, of_bits(a), of_pattern(low_half(b)));
-    }
-    if leaf < 80 {
-        return function_leaf(leaf, of_bits(a), of_bits(b));
-    }
-    if leaf < 82 {
-        return error_leaf(leaf, of_bits(a));
-    }
-    if leaf < 85 {
-        return gamma_leaf(leaf, of_bits(a));
-    }
-    if leaf < 96 {
-        return error_leaf(leaf, of_bits(a));
-    }
-    distance_leaf(leaf, a, b)
 }
 
-// Answers request number i.
-fn answer_at(requests: &[u8], i: usize, answers: &mut [u8])
-    requires { (i * 24 + 24 ≤ length requests.now) × (i * 8 + 8 ≤ length answers.old) }
-{
-    let at = i * 24;
-    let bits = answer(
-        get(requests, at, 8),
-        get(requests, at + 8, 8),
-        get(requests, at + 16, 8),
-    );
-    put(answers, i * 8, 8, bits);
-}
-
-// Answers the first `count` requests.
-fn answer_each(requests: &[u8], count: usize, answers: &mut [u8])
-    requires { (count * 24 ≤ length requests.now) × (count * 8 ≤ length answers.old) }
-{
-    let mut i = 0;
-    while i < count {
-        answer_at(requests, i, answers);
-        i = i + 1;
+// Answers each whole request, as far as there is room.
+fn answer_each(requests: &[u8], answers: &mut [u8]) {
+    for (request, bits) in requests.chunks_exact(24).zip(answers.chunks_exact_mut(8)) {
+        let leaf = get(request, 0, 8);
+        put(
+            bits,
+            0,
+            8,
+            answer(leaf, get(request, 8, 8), get(request, 16, 8)),
+        );
     }
 }
 
@@ -345,16 +210,16 @@ fn turn(mut input: Stdin, mut output: Stdout) -> bool {
     let mut requests = [0u8; 49152];
     let mut answers = [0u8; 16384];
     let got = read_full(&mut input, &mut requests);
-    let count = got / 24;
-    answer_each(&requests, count, &mut answers);
-    let is_written = write_all(&mut output, &answers[..count * 8]);
+    answer_each(&requests[..got], &mut answers);
+    let is_written = write_all(&mut output, &answers[..got / 24 * 8]);
     is_written && got == 49152
 }
 
-// Nothing says that the input ends, so the turns are counted down, from a number that no run uses up.
+// Nothing says that the input ends, so the turns are counted, up to a number that no run comes to.
 fn main(rt: HostRuntime) {
-    let mut turns = u64::MAX;
-    while turns > 0 && turn(rt.stdin(), rt.stdout()) {
-        turns = turns - 1;
+    for _ in 0..u64::MAX {
+        if !turn(rt.stdin(), rt.stdout()) {
+            return;
+        }
     }
 }

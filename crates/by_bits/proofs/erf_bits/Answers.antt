@@ -1,14 +1,7 @@
 -- `by_bits::erf_bits` meets its contract. Assumes nothing.
-use mathlib.Core.Path.{sym, ap, ◌∙◌}
-use lib.Ieee.{binary64, to_bits}
-use Rattle.erf.proofs.Laws64.{erf_special}
 use Rattle.erf.specs.Erf64.{erf_s}
-use Rattle.by_bits.proofs.NanLaws.{on_nan}
+use Rattle.erf.proofs.Laws64.{erf_special}
 use Rattle.by_bits.proofs.erf_bits.Goals as goal
 
-pub returns-then-is_nan : goal.returns-then-is_nan
-unfolding to_bits
-returns-then-is_nan c = on_nan binary64 c.args.x (sym c.is_nan.ensures ∙ c.if-is_nan.true) erf_s erf_special.erf_nan
-
 pub returns : goal.returns
-returns c = c.bits_of.ensures ∙ ap (to_bits binary64) (c.erf.ensures ∙ ap erf_s c.of_bits.ensures)
+returns c = c.on_bits.ensures erf_s (λ a b h. h) erf_special.erf_nan

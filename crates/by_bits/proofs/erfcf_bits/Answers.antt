@@ -1,14 +1,7 @@
 -- `by_bits::erfcf_bits` meets its contract. Assumes nothing.
-use mathlib.Core.Path.{sym, ap, ◌∙◌}
-use lib.Ieee.{binary32, to_bits}
-use Rattle.erff.proofs.Laws32.{erff_special}
 use Rattle.erff.specs.Erff.{erfcf_s}
-use Rattle.by_bits.proofs.NanLaws.{on_nan}
+use Rattle.erff.proofs.Laws32.{erff_special}
 use Rattle.by_bits.proofs.erfcf_bits.Goals as goal
 
-pub returns-then-is_nan_f32 : goal.returns-then-is_nan_f32
-unfolding to_bits
-returns-then-is_nan_f32 c = on_nan binary32 c.args.x (sym c.is_nan_f32.ensures ∙ c.if-is_nan_f32.true) erfcf_s erff_special.erfc_nan
-
 pub returns : goal.returns
-returns c = c.bits_of_f32.ensures ∙ ap (to_bits binary32) (c.erfcf.ensures ∙ ap erfcf_s c.of_bits_f32.ensures)
+returns c = c.on_bits.ensures erfcf_s (λ a b h. h) erff_special.erfc_nan

@@ -1,14 +1,7 @@
 -- `by_bits::tgamma_bits` meets its contract. Assumes nothing.
-use mathlib.Core.Path.{sym, ap, ◌∙◌}
-use lib.Ieee.{binary64, to_bits}
-use Rattle.tgamma.proofs.SpecialValues.{tgamma_nan}
 use Rattle.tgamma.specs.Tgamma.{tgamma_s}
-use Rattle.by_bits.proofs.NanLaws.{on_nan}
+use Rattle.tgamma.proofs.SpecialValues.{tgamma_nan}
 use Rattle.by_bits.proofs.tgamma_bits.Goals as goal
 
-pub returns-then-is_nan : goal.returns-then-is_nan
-unfolding to_bits
-returns-then-is_nan c = on_nan binary64 c.args.x (sym c.is_nan.ensures ∙ c.if-is_nan.true) tgamma_s tgamma_nan
-
 pub returns : goal.returns
-returns c = c.bits_of.ensures ∙ ap (to_bits binary64) (c.tgamma.ensures ∙ ap tgamma_s c.of_bits.ensures)
+returns c = c.on_bits.ensures tgamma_s (λ a b h. h) tgamma_nan

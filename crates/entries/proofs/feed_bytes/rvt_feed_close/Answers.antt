@@ -4,4 +4,4 @@ use Rattle.entries.proofs.FeedLaws.{close_told}
 use Rattle.entries.proofs.feed_bytes.rvt_feed_close.Goals as goal
 
 pub returns : goal.returns
-returns c = close_told c.args.feed.now _ _ _ (search rules) c.load-f.ensures c.close-t.ensures c.store.ensures
+returns c = close_told c.args.feed.now _ _ _ _ (search rules) c.from.ensures c.load-f.ensures c.close-t.ensures c.store.ensures

@@ -5,4 +5,4 @@ use Rattle.entries.proofs.pair.rvt_erf_erfc.Goals as goal
 
 pub returns : goal.returns
 returns c =
-    pair_given c.args.x c.args.pair.now _ _ _ _ (search rules) c.erf_erfc_bits-t.ensures.0 c.erf_erfc_bits-t.ensures.1 c.put.ensures c.put-2.ensures
+    pair_given c.args.x c.args.pair.now _ _ _ _ _ (search rules) c.from.ensures c.erf_erfc_bits-t.ensures.0 c.erf_erfc_bits-t.ensures.1 c.put.ensures c.put-2.ensures

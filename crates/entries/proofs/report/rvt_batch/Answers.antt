@@ -5,4 +5,4 @@ use Rattle.entries.proofs.report.rvt_batch.Goals as goal
 
 pub returns : goal.returns
 returns c =
-    made_done c.args.requests.now c.args.answers.now c.args.report.now _ _ _ (search rules) c.batch-t.ensures c.tell.ensures
+    made_done c.args.requests.now c.args.answers.now c.args.report.now _ _ _ _ (search rules) c.from.ensures c.batch-t.ensures c.tell.ensures
