@@ -176,7 +176,7 @@ fn log_of(ax: f64, ix: u32, hy: u32) -> Parts
     log2(ax, ix)
 }
 
-// s times ax to the power of y, where neither is special. log_of stands between so that `product`, the second half of pow, is called once.
+// s times ax to the power of y, where neither is special. It takes the words ix and hy, since ax is a size, whose words are not those of x. log_of stands between so that `product`, the second half of pow, is called once.
 #[tactic(auto, using(crate::proofs::FarLaws::near), unfolding(crate::specs::Pow::signed_s))]
 fn signed(s: f64, ax: f64, y: f64, ix: u32, hy: u32) -> f64
     ensures { result ≡ signed_s s ax y ix hy }

@@ -48,7 +48,7 @@ fn fraction(p_h: f64, p_l: f64) -> f64
     1.0 - (r - z)
 }
 
-// z times 2^n, where w is the word of n.
+// z times 2^n, where w is the word of n: an i32 below 0 cannot be cast to it.
 #[tactic(auto, unfolding(crate::specs::Exp2::scaled_s))]
 fn scaled(z: f64, n: i32, w: u32) -> f64
     requires { w ≡ word n }

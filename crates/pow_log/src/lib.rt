@@ -102,7 +102,7 @@ fn exponent(e: u32, bias: u32) -> i32
     e as i32 - bias as i32
 }
 
-// [a, b][k], as the Rust has BP[k], DP_H[k] and DP_L[k].
+// [a, b][k], as the Rust has BP[k], DP_H[k] and DP_L[k]: a choice, where a table would be read from memory.
 fn at(k: u32, a: f64, b: f64) -> f64
     ensures { result ≡ (if k =? 0 then a else b) }
 {
