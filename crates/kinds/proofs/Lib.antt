@@ -1,3 +1,3 @@
--- Laws of the shapes that there are (ShapeLaws), by one test of all kinds (Every).
+-- Laws of the shapes that there are (ShapeLaws), by tests of their rows (Every).
 pub mod Every
 pub mod ShapeLaws

@@ -2,23 +2,8 @@
 use mathlib.Core.Path.{sym, ap, subst}
 use native.Mathlib.Omega.{arith}
 use Rattle.records.specs.declared.Tally.{Tally}
-use Rattle.records.proofs.LoopLaws.{Going, going_none, going_on, going_further, going_done}
+use Rattle.records.proofs.LoopLaws.{Going, going_on, going_further, going_done}
 use Rattle.records.proofs.runs.run.Goals as goal
-
-pub loop-one-init : goal.loop-one-init
-loop-one-init g c = going_none g.S.Step.step_s c.args.input.now c.args.output.now
-
-pub slice_bounds-step-count : goal.slice_bounds-step-count
-slice_bounds-step-count g c = c.loop-one.invariant.inside
-
-pub slice_bounds-step-start : goal.slice_bounds-step-start
-slice_bounds-step-start g c = c.loop-one.invariant.inside
-
-pub slice_bounds-step-count-in-loop-one : goal.slice_bounds-step-count-in-loop-one
-slice_bounds-step-count-in-loop-one g c = c.loop-one.invariant.within
-
-pub slice_bounds-step-start-in-loop-one : goal.slice_bounds-step-start-in-loop-one
-slice_bounds-step-start-in-loop-one g c = c.loop-one.invariant.within
 
 pub returns-then-one-eq0 : goal.returns-then-one-eq0
 returns-then-one-eq0 g c =
