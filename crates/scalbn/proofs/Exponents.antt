@@ -1,5 +1,5 @@
 -- Sums of an exponent n, an i32, and a number that a format gives: where they fit, and on which side of a bound they lie. Assumes nothing.
-use Prim.Native.Nat.{ℕ, suc, ◌+◌, ◌-◌, ◌*◌, ◌^◌, ◌≤◌, ◌<◌}
+use Prim.Native.Nat.{ℕ, suc, ◌-◌, ◌^◌, ◌≤◌, ◌<◌}
 use native.Mathlib.Omega.{arith}
 use mathlib.Core.Path.{◌≡◌, refl, sym, ap, ◌∙◌, subst}
 use mathlib.Core.Bool.{Bool, true, false}
@@ -61,16 +61,3 @@ module _ (K A : ℕ) where
       go : (b : Bool) → ltb A (suc m) ≡ b → lt_z (pos M) (sub_ℕ A (suc m)) ≡ false
       go true e = rw (sub_below A (suc m) (ltb-true _ _ e)) refl
       go false e = rw (sub_above A (suc m) (ltb-false _ _ e)) (le-ltb M (A - suc m) (omega arith))
-
--- the exponent's field of 2 ^ n, in a format whose greatest exponent is M
-pub record Field (M : ℕ) (n : ℤ) : Type 0 where
-  pub field : ℕ
-  pub is : pos M +ℤ n ≡ pos field
-  pub small : field ≤ 2 * M
-
--- 2 ^ n has a field for n from 1 - M = -K - 1 to M = K + 2
-pub field_of : (K : ℕ) (n : ℤ) → lt_z n (negsuc K) ≡ false → lt_z (pos (suc (suc K))) n ≡ false → Field (suc (suc K)) n
-field_of K (pos m) s t = record { field = suc (suc K) + m; is = refl; small = omega (arith, ltb-false (suc (suc K)) m t) }
-field_of K (negsuc m) s t =
-    let h : m ≤ K = ltb-false _ _ s in
-    record { field = suc (suc K) - suc m; is = sub_above (suc (suc K)) (suc m) (omega arith); small = omega arith }

@@ -1,66 +1,19 @@
--- What the code of `scalbn` and of `scalbnf` needs of its exponents, and what each return gives, over the format. Assumes nothing.
-use Prim.Native.Nat.{ℕ, ◌*◌, ◌≤◌}
-use native.Mathlib.Omega.{arith}
-use mathlib.Core.Path.{◌≡◌, refl, sym, ap, ◌∙◌, subst}
+-- What the code of `scalbn` needs of its exponents, and what each return gives, over the format. Assumes nothing.
+use mathlib.Core.Path.{◌≡◌, refl, ap, ◌∙◌}
 use mathlib.Core.Bool.{true, false}
-use lib.Dec.{T, lit<, lit≤}
-use lib.IntN.{ℤ, pos, neg_ℤ, nat_abs, ◌+ℤ◌, ◌-ℤ◌}
-use lib.Signed.{lt_z, non_neg}
-use lib.Ieee.{Float, Format, binary32, binary64, prec, emax, hid, of_bits, mul}
-use mir.Syntax.{Width, w32, w64}
-use mir.Val.{Fits, SFits}
+use lib.Dec.{lit<, lit≤}
+use lib.IntN.{ℤ, pos, neg_ℤ, ◌+ℤ◌, ◌-ℤ◌}
+use lib.Signed.{lt_z}
+use lib.Ieee.{Float, Format, binary32, binary64, prec, mul}
+use mir.Syntax.{w32}
+use mir.Val.{SFits}
 use mir.ValLaws.{to_z-of_z}
 use Rattle.scalbn.specs.Scalbn.{exp_max, exp_min, sig_total_bits, power2, up_s, down_s, scalbn_s}
-use Rattle.scalbn.proofs.Exponents.{local, held_sum, less_fits, less_above, more_fits, more_below, Field, field_of}
+use Rattle.scalbn.proofs.Exponents.{local, held_sum, less_fits, less_above, more_fits, more_below}
 
 -- n is the exponent of a normal power of 2
 abbrev pub Normal : Format → ℤ → Type 0
 Normal f n = (lt_z n (exp_min f) ≡ false) × (lt_z (exp_max f) n ≡ false)
-
--- ---- 2 ^ n
--- the width of a pattern
-abbrev word : Format → Width
-word binary32 = w32
-word binary64 = w64
-
-field_in : (f : Format) (n : ℤ) → Normal f n → Field (emax f) n
-field_in binary32 n h = field_of 125 n h.0 h.1
-field_in binary64 n h = field_of 1021 n h.0 h.1
-
-exponent_fits : (f : Format) (k : ℕ) → k ≤ 2 * emax f → SFits w32 (pos k)
-exponent_fits binary32 k h = record { sfits = omega arith }
-exponent_fits binary64 k h = record { sfits = omega arith }
-
-field_fits : (f : Format) (k : ℕ) → k ≤ 2 * emax f → Fits (word f) k
-field_fits binary32 k h = record { fits = omega arith }
-field_fits binary64 k h = record { fits = omega arith }
-
-pattern_fits : (f : Format) (k : ℕ) → k ≤ 2 * emax f → Fits (word f) (k * hid f)
-pattern_fits binary32 k h = record { fits = omega arith }
-pattern_fits binary64 k h = record { fits = omega arith }
-
-module _ (f : Format) (n : ℤ) (F : SFits w32 n) (h : Normal f n) where
-  sum_is : exp_max f +ℤ local n ≡ pos (field_in f n h).field
-  sum_is = ap (λ (v : ℤ). exp_max f +ℤ v) (to_z-of_z w32 n F) ∙ (field_in f n h).is
-
-  pub sum_fits : SFits w32 (exp_max f +ℤ local n)
-  sum_fits = rw sum_is (exponent_fits f (field_in f n h).field (field_in f n h).small)
-
-  -- the sum as a local holds it
-  held_is : local (exp_max f +ℤ local n) ≡ pos (field_in f n h).field
-  held_is = to_z-of_z w32 (exp_max f +ℤ local n) sum_fits ∙ sum_is
-
-  pub sum_casts : T (non_neg (local (exp_max f +ℤ local n))) × Fits (word f) (nat_abs (local (exp_max f +ℤ local n)))
-  sum_casts =
-      subst (λ (v : ℤ). T (non_neg v) × Fits (word f) (nat_abs v)) (sym held_is)
-      (tt, field_fits f (field_in f n h).field (field_in f n h).small)
-
-  pub product_fits : Fits (word f) (nat_abs (local (exp_max f +ℤ local n)) * hid f)
-  product_fits =
-      subst (λ (v : ℤ). Fits (word f) (nat_abs v * hid f)) (sym held_is) (pattern_fits f (field_in f n h).field (field_in f n h).small)
-
-  pub power_is : of_bits f (nat_abs (local (exp_max f +ℤ local n)) * hid f) ≡ power2 f n
-  power_is = ap (λ (v : ℤ). of_bits f (nat_abs v * hid f)) (held_is ∙ sym (field_in f n h).is)
 
 -- ---- the width's constants, as the code's locals hold them
 local_max : (f : Format) → local (exp_max f) ≡ exp_max f
@@ -107,9 +60,6 @@ module _ (f : Format) (n : ℤ) (F : SFits w32 n) (above : lt_z (exp_max f) n �
   up1_is : up1 ≡ n -ℤ exp_max f
   up1_is = held_sum n (neg_ℤ (exp_max f)) F n1_fits
 
-  pub up1_fits : SFits w32 (local n -ℤ exp_max f)
-  up1_fits = rw (to_z-of_z w32 n F) n1_fits
-
   pub up1_normal : lt_z (exp_max f) up1 ≡ false → Normal f up1
   up1_normal t = (rw up1_is (less_from_min f n above), t)
 
@@ -126,9 +76,6 @@ module _ (f : Format) (n : ℤ) (F : SFits w32 n) (above : lt_z (exp_max f) n �
 
     up2_is : up2 ≡ n -ℤ exp_max f -ℤ exp_max f
     up2_is = ap (λ (v : ℤ). local (v -ℤ exp_max f)) up1_is ∙ to_z-of_z w32 (n -ℤ exp_max f -ℤ exp_max f) n2_fits
-
-    pub up2_fits : SFits w32 (up1 -ℤ exp_max f)
-    up2_fits = rw up1_is n2_fits
 
     pub up2_normal : lt_z (exp_max f) up2 ≡ false → Normal f up2
     up2_normal t = (rw up2_is (less_from_min f (n -ℤ exp_max f) n1_above), t)
