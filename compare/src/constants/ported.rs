@@ -29,9 +29,8 @@ pub const GROUPS: &[Group] = &[
         specs: &["lgamma/specs/Lgamma64.antt", "sinpi/specs/Sinpi.antt"],
         lent: &[],
         code: &[
-            "lgamma/src/lib.rt",
-            "lgamma/src/below2.rt",
-            "lgamma/src/from2.rt",
+            "lgamma/src/double.rt",
+            "words/src/real.rt",
             "sinpi/src/lib.rt",
         ],
     },
@@ -40,9 +39,8 @@ pub const GROUPS: &[Group] = &[
         specs: &["lgammaf/specs/Lgammaf.antt", "sinpi/specs/Sinpif.antt"],
         lent: &["sinpi/specs/Sinpi.antt"],
         code: &[
-            "lgammaf/src/lib.rt",
-            "lgammaf/src/below2.rt",
-            "lgammaf/src/from2.rt",
+            "lgammaf/src/single.rt",
+            "words/src/real.rt",
             "sinpi/src/single.rt",
         ],
     },

@@ -1,9 +1,10 @@
--- The enum `Segment` of the code, by number and y, for the private functions `segment_at` and `added`.
+-- The enum `Segment` of the code, by number and y, for the private functions `segment_at` and `added`. `float` reads y.
+use Rattle.std.specs.Prelude.{Float}
 use Rattle.lgamma.specs.declared.below2.Segment.{Segment}
 use Rattle.lgamma.specs.declared.below2.Segment.TheVariants.{Zero, One, Two}
 use Rattle.lgamma.specs.Plan as Plan
 
-abbrev pub segment_of : Segment → Plan.Segment
-segment_of (Zero y) = record { i = 0; y = y }
-segment_of (One y) = record { i = 1; y = y }
-segment_of (Two y) = record { i = 2; y = y }
+abbrev pub segment_of : {R : Type 0} → (R → Float) → Segment R → Plan.Segment
+segment_of float (Zero y) = record { i = 0; y = float y }
+segment_of float (One y) = record { i = 1; y = float y }
+segment_of float (Two y) = record { i = 2; y = float y }

@@ -5,94 +5,96 @@
 #![tactic(auto)]
 
 pub mod below2;
+pub mod double;
 pub mod from2;
+pub mod width;
 
-ghost use Rattle.std.specs.Prelude.{◌≡◌, Float};
+ghost use Rattle.std.specs.Prelude.{◌≡◌};
 ghost use Rattle.lgamma.specs.Plan.{size_s, reflected_s};
-ghost use Rattle.lgamma.specs.Lgamma64.{lgamma64, lgamma_s};
+ghost use Rattle.lgamma.specs.Plan as Plan;
+ghost use Rattle.lgamma.specs.Lgamma64.{lgamma_s};
 
 use crate::below2::below2;
+use crate::double::LGAMMA;
 use crate::from2::{below8, stirling};
-use logarithm::log;
-use sinpi::sinpi;
-use words::bits::{get_low_word, sign, size_word};
-
-const PI: f64 = 3.14159265358979311600e+00; /* 0x400921FB, 0x54442D18 */
+use crate::width::{Constants, LogGamma};
 
 #[derive(Clone, Copy)]
-pub struct LgammaR {
-    pub value: f64,
+pub struct LgammaR<R> {
+    pub value: R,
     pub sign: i32,
 }
 
-fn answer(value: f64, sign: i32) -> LgammaR
-    ensures { (result.value ≡ value) × (result.sign ≡ sign) }
+fn answer<R: LogGamma>(value: R, sign: i32) -> LgammaR<R>
+    ensures { (R.float result.value ≡ R.float value) × (result.sign ≡ sign) }
 {
     LgammaR { value, sign }
 }
 
-fn is_one_or_two(ix: u32, x: f64) -> bool
-    ensures { result ≡ lgamma64.is_one_or_two ix x }
-{
-    (ix == 0x3ff00000 || ix == 0x40000000) && get_low_word(x) == 0
-}
-
 // r, of a positive x.
-fn size(ix: u32, x: f64) -> f64
-    ensures { result ≡ size_s lgamma64 ix x }
+fn size<R: LogGamma>(c: &Constants<R>, ix: u32, x: R) -> R
+    ensures { R.float result ≡ size_s (R.plan c.now) ix (R.float x) }
 {
     /* purge off 1 and 2 */
-    if is_one_or_two(ix, x) {
-        return 0.0;
+    if R::is_one_or_two(ix, x) {
+        return R::ZERO;
     }
-    if ix < 0x40000000 {
-        return below2(ix, x);
+    if ix < c.at_2 {
+        return below2(c, ix, x);
     }
-    if ix < 0x40200000 {
-        return below8(x);
+    if ix < c.at_8 {
+        return below8(c, x);
     }
-    if ix < 0x43900000 {
-        return stirling(x);
+    if ix < c.at_2_58 {
+        return stirling(c, x);
     }
     /* 2**58 <= x <= inf */
-    x * (log(x) - 1.0)
+    x * (x.log() - R::ONE)
 }
 
 // A negative argument, of which x is the size: t is sin_pi(x).
-fn reflected(ix: u32, x: f64, t: f64) -> LgammaR
-    ensures { (result.value ≡ (reflected_s lgamma64 ix x t).value) × (result.sign ≡ (reflected_s lgamma64 ix x t).sign) }
+fn reflected<R: LogGamma>(c: &Constants<R>, ix: u32, x: R, t: R) -> LgammaR<R>
+    ensures { (R.float result.value ≡ (reflected_s (R.plan c.now) ix (R.float x) (R.float t)).value)
+        × (result.sign ≡ (reflected_s (R.plan c.now) ix (R.float x) (R.float t)).sign) }
 {
-    if t == 0.0 {
+    if t == R::ZERO {
         /* -integer */
-        return answer(1.0 / (x - x), 1);
+        return answer(R::ONE / (x - x), 1);
     }
-    if t > 0.0 {
-        return answer(log(PI / (t * x)) - size(ix, x), -1);
+    if R::ZERO < t {
+        return answer((c.pi / (t * x)).log() - size(c, ix, x), -1);
     }
-    answer(log(PI / (-t * x)) - size(ix, x), 1)
+    answer((c.pi / (-t * x)).log() - size(c, ix, x), 1)
 }
 
-pub fn lgamma_r(x: f64) -> LgammaR
+// lgamma_r and lgammaf_r, by the constants of their width.
+pub fn log_gamma<R: LogGamma>(c: &Constants<R>, x: R) -> LgammaR<R>
+    ensures { (R.float result.value ≡ (Plan.lgamma_s (R.plan c.now) (R.float x)).value)
+        × (result.sign ≡ (Plan.lgamma_s (R.plan c.now) (R.float x)).sign) }
+{
+    let sign = x.sign();
+    let ix = x.size_word();
+    if ix >= c.not_finite {
+        return answer(x * x, 1);
+    }
+    if ix < c.tiny {
+        if sign == 0 {
+            return answer(-x.log(), 1);
+        }
+        return answer(-(-x).log(), -1);
+    }
+    if sign == 0 {
+        return answer(size(c, ix, x), 1);
+    }
+    reflected(c, ix, -x, (-x).sinpi())
+}
+
+pub fn lgamma_r(x: f64) -> LgammaR<f64>
     ensures { (result.value ≡ (lgamma_s x).value) × (result.sign ≡ (lgamma_s x).sign) }
 {
     // a NaN leaves first: no later look at the bits of x has to allow for one
     if x != x {
-        return answer(x, 1);
+        return LgammaR { value: x, sign: 1 };
     }
-    let sign = sign(x);
-    let ix = size_word(x);
-    if ix >= 0x7ff00000 {
-        return answer(x * x, 1);
-    }
-    if ix < 0x3b900000 {
-        /* |x|<2**-70, return -log(|x|) */
-        if sign == 0 {
-            return answer(-log(x), 1);
-        }
-        return answer(-log(-x), -1);
-    }
-    if sign == 0 {
-        return answer(size(ix, x), 1);
-    }
-    reflected(ix, -x, sinpi(-x))
+    log_gamma(&LGAMMA, x)
 }

@@ -1,2 +1,1 @@
 pub mod Lgammaf
-pub mod Segment

@@ -4,12 +4,12 @@ use Rattle.lgamma.proofs.below2.added.Goals as goal
 
 pub returns-in-Zero : goal.returns-in-Zero
 unfolding added_s
-returns-in-Zero c = rw (c.zero.ensures, c.in-Zero.is)
+returns-in-Zero g c = rw (c.zero.ensures, c.in-Zero.is)
 
 pub returns-in-One : goal.returns-in-One
 unfolding added_s
-returns-in-One c = rw (c.one.ensures, c.in-One.is)
+returns-in-One g c = rw (c.one.ensures, c.in-One.is)
 
 pub returns-in-Two : goal.returns-in-Two
 unfolding added_s
-returns-in-Two c = rw (c.two.ensures, c.in-Two.is)
+returns-in-Two g c = rw (c.two.ensures, c.in-Two.is)

@@ -1,16 +1,36 @@
 -- `lgamma::from2::below8` meets its contract. Assumes nothing.
-use mathlib.Core.Path.{refl}
-use Rattle.lgamma.specs.Lgamma64.{lgamma64}
 use Rattle.lgamma.proofs.LgammaCode as code
 use Rattle.lgamma.proofs.from2.below8.Goals as goal
 
 pub returns-then-i-ge3 : goal.returns-then-i-ge3
-returns-then-i-ge3 c =
-    let e = c.whole-i.ensures.0 in
-    code.by_product lgamma64 _ e refl c.horner.ensures c.horner-q.ensures
-    c.product.ensures c.log.ensures c.if-i-ge3.true
+returns-then-i-ge3 g c =
+    let r = g.met.R.Real in
+    let e = g.met.R.LogGamma.plan_law c.args.c.now in
+    let y = r.sub_law _ _ _ c.sub-y.ensures in
+    rw (
+      e,
+      r.add_law _ _ _ c.add.ensures,
+      r.add_law _ _ _ c.add-r.ensures,
+      r.mul_law _ _ _ c.mul.ensures,
+      r.div_law _ _ _ c.div.ensures,
+      r.mul_law _ _ _ c.mul-p.ensures,
+      c.HALF.ensures,
+      y,
+    )
+    (code.by_product _ _ c.whole-i.ensures.0 c.of_int.ensures (rw y at c.horner.ensures) (rw y at c.horner-q.ensures)
+    (rw (e, y) at c.product.ensures) c.log.ensures c.if-i-ge3.true)
 
 pub returns : goal.returns
-returns c =
-    let e = c.whole-i.ensures.0 in
-    code.by_itself lgamma64 _ e refl c.horner.ensures c.horner-q.ensures c.if-i-ge3.false
+returns g c =
+    let r = g.met.R.Real in
+    let y = r.sub_law _ _ _ c.sub-y.ensures in
+    rw (
+      g.met.R.LogGamma.plan_law c.args.c.now,
+      r.add_law _ _ _ c.add-r.ensures,
+      r.mul_law _ _ _ c.mul.ensures,
+      r.div_law _ _ _ c.div.ensures,
+      r.mul_law _ _ _ c.mul-p.ensures,
+      c.HALF.ensures,
+      y,
+    )
+    (code.by_itself _ _ c.whole-i.ensures.0 c.of_int.ensures (rw y at c.horner.ensures) (rw y at c.horner-q.ensures) c.if-i-ge3.false)

@@ -1,7 +1,0 @@
--- `lgammaf::from2::stirling` meets its contract. Assumes nothing.
-use Rattle.lgamma.specs.Plan.{stirling_s}
-use Rattle.lgammaf.proofs.from2.stirling.Goals as goal
-
-pub returns : goal.returns
-unfolding stirling_s
-returns c = rw (c.hornerf.ensures, c.logf-t.ensures)
