@@ -44,16 +44,6 @@ pub record Going (S : List ℕ → ℕ → Out) (s first a : List ℕ) (t : Tall
   pub count : t.records ≤ t.read
   pub so_far : SoFar (run_by S s (length first)) (onward_by S s (length a) t) t first a
 
-pub going_none : (S : List ℕ → ℕ → Out) (s a : List ℕ) → Going S s a a nothing
-going_none S s a = record {
-  inside = omega arith;
-  within = omega arith;
-  same = refl;
-  count = omega arith;
-  so_far = let e : length a ≡ length a - 0 = omega arith in
-      subst (λ (k : ℕ). SoFar (run_by S s (length a)) (run_by S s k) nothing a a) e (so_far_none (run_by S s (length a)) a);
-}
-
 -- one step over what is left to read and the rest of the buffer, of which it leaves b
 module _ (S : List ℕ → ℕ → Out) (law : Lawful S) (s first a b : List ℕ) (t : Tally) (r : Report) (g : Going S s first a t)
     (rests : Did (S (take (length s - t.read) (drop t.read s)) (length (take (length a - t.written) (drop t.written a)))) r 0 (take (length a - t.written) (drop t.written a)) b) where
