@@ -22,9 +22,6 @@ pub record SoFar (all rest : Out) (t : Tally) (first a : List ℕ) : Type 0 wher
   pub tally : t ⊞ rest.tally ≡ all.tally
   pub buffer : sets a t.written rest.bytes ≡ sets first 0 all.bytes
 
-pub so_far_none : (all : Out) (a : List ℕ) → SoFar all all nothing a a
-so_far_none all a = record { code = refl; tally = nothing_⊞ all.tally; buffer = refl }
-
 -- one record more, over any outcomes
 pub so_far_more : (all o rest : Out) (t : Tally) (first a b : List ℕ) → o.tally.written ≡ length o.bytes → b ≡ sets a t.written o.bytes →
     SoFar all (ahead o rest) t first a → SoFar all rest (t ⊞ o.tally) first b
