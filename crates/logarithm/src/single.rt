@@ -1,5 +1,6 @@
 // logf: log's course with constants of its own: four coefficients, with an error that msun gives as 2^-34.24; a subnormal number is scaled up
-// by 2^25.
+// by 2^25. What looks at the pattern, logf and reduced, stands beside log's and not once for both: an f64's pattern is cut into two words and an
+// f32's is one, so that one text would need each cut as a constant, and facts that the cuts fit.
 ghost use Rattle.std.specs.Prelude.{◌<◌, ◌≡◌, nat_abs};
 ghost use Rattle.logarithm.specs.Plan.{reduced_s};
 ghost use Rattle.logarithm.specs.Logf.{log32, logf_s};
