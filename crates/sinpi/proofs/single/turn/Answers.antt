@@ -4,4 +4,4 @@ use Rattle.sinpi.proofs.single.turn.Goals as goal
 
 pub returns : goal.returns
 unfolding turn_s
-returns c = rw c.floorf.ensures
+returns c = rw c.floor.ensures
