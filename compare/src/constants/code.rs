@@ -51,6 +51,8 @@ pub fn read(text: &str) -> Code {
     while at < found.len() {
         at += match found[at].text.as_str() {
             "const" => constant(&found[at..], &comments, &mut code),
+            "static" if is_struct(&found[at..]) => fields(&found[at..], &comments, &mut code),
+            "static" => constant(&found[at..], &comments, &mut code),
             _ => number(&found, at, &mut code),
         };
     }
@@ -85,6 +87,63 @@ fn without_unused(tokens: &[Token]) -> Vec<Token> {
     })
 }
 
+/// Whether a static has fields.
+fn is_struct(tokens: &[Token]) -> bool {
+    let value = tokens.iter().skip_while(|t| !t.is("="));
+    value.skip(2).next().is_some_and(|t| t.is("{"))
+}
+
+/// Reads `static NAME: TYPE<WIDTH> = TYPE { field: .., .. };`, and answers its length. A field with a float is a constant of its name, in
+/// capitals; the others have words and counts.
+fn fields(tokens: &[Token], comments: &[(usize, String)], code: &mut Code) -> usize {
+    let equals = tokens.iter().position(|t| t.is("=")).unwrap_or(0);
+    let kind = texts(&tokens[..equals], equals);
+    let width = match kind.contains(&"f64") {
+        true => Width::Double,
+        false => Width::Single,
+    };
+    let length = equals + 2 + in_brackets(&tokens[equals + 2..]);
+    let mut at = equals + 3;
+    while at + 2 < length {
+        let end = value_length(&tokens[at..length - 1]);
+        let value = &tokens[at + 2..at + end];
+        if value.iter().any(|t| t.is_float()) {
+            let name = tokens[at].text.to_uppercase();
+            let is_list = value.iter().any(|t| t.is("["));
+            named(
+                &name,
+                tokens[at].line,
+                width,
+                is_list,
+                value,
+                comments,
+                code,
+            );
+        } else {
+            let mut place = 0;
+            while place < value.len() {
+                place += number(value, place, code);
+            }
+        }
+        at += end + 1;
+    }
+    length
+}
+
+/// How many tokens there are before the comma behind a field's value.
+fn value_length(tokens: &[Token]) -> usize {
+    let mut depth = 0;
+    for (at, token) in tokens.iter().enumerate() {
+        match token.text.as_str() {
+            "[" | "(" | "{" => depth += 1,
+            "]" | ")" | "}" => depth -= 1,
+            "," if depth == 0 => return at,
+            _ => {}
+        }
+    }
+    tokens.len()
+}
+
 /// Reads `const NAME: TYPE = ..;`, and answers its length.
 fn constant(tokens: &[Token], comments: &[(usize, String)], code: &mut Code) -> usize {
     let end = |text| {
@@ -103,10 +162,33 @@ fn constant(tokens: &[Token], comments: &[(usize, String)], code: &mut Code) -> 
     };
     // a semicolon stands inside the type of a list too
     let length = equals + tokens[equals..].iter().position(|t| t.is(";")).unwrap_or(0);
+    let is_list = kind.contains(&"[");
+    named(
+        kind[1],
+        tokens[0].line,
+        width,
+        is_list,
+        &tokens[equals..length],
+        comments,
+        code,
+    );
+    length
+}
+
+/// Takes in a constant: its name, and the numbers of its value.
+fn named(
+    name: &str,
+    line: usize,
+    width: Width,
+    is_list: bool,
+    value: &[Token],
+    comments: &[(usize, String)],
+    code: &mut Code,
+) {
     let mut numbers = Vec::new();
-    for at in equals..length {
-        if tokens[at].is_float() {
-            numbers.push((tokens[at].line, signed(tokens, at)));
+    for at in 0..value.len() {
+        if value[at].is_float() {
+            numbers.push((value[at].line, signed(value, at)));
         }
     }
     let beside = |place: usize| {
@@ -116,14 +198,13 @@ fn constant(tokens: &[Token], comments: &[(usize, String)], code: &mut Code) -> 
         pattern_in(&comment.1, width)
     };
     code.constants.push(Constant {
-        name: kind[1].to_string(),
-        line: tokens[0].line,
+        name: name.to_string(),
+        line,
         width,
-        is_list: kind.contains(&"["),
+        is_list,
         beside: (0..numbers.len()).map(beside).collect(),
         values: numbers.iter().map(|(_, value)| value.clone()).collect(),
     });
-    length
 }
 
 /// The literal at a place, with the minus before it where that is a sign.
@@ -249,6 +330,24 @@ mod tests {
         assert_eq!(words, [0x3C90_0000, 0x7FFF_FFFF]);
         let counts: Vec<_> = code.counts.iter().map(|c| c.1).collect();
         assert_eq!(counts, [12, 54]);
+    }
+
+    #[test]
+    fn a_static_with_fields_has_a_constant_for_each() {
+        let code = read(
+            "static EXP: Constants<f64> = Constants {
+                to_tiny: 0x3e300000,
+                ln2hi: 1.5, /* 0x3FF80000, 0x00000000 */
+                p: &[0.5, -0.25],
+            };
+            static FACT: [f64; 2] = [1.0, 2.0];",
+        );
+        let names: Vec<_> = code.constants.iter().map(|c| c.name.as_str()).collect();
+        assert_eq!(names, ["LN2HI", "P", "FACT"]);
+        assert!(!code.constants[0].is_list && code.constants[1].is_list);
+        assert_eq!(code.constants[0].beside, [Some(0x3FF8_0000_0000_0000)]);
+        assert_eq!(code.constants[1].values[1].to_string(), "-0.25");
+        assert_eq!(code.words, [(2, 0x3E30_0000)]);
     }
 
     #[test]

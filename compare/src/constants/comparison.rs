@@ -136,12 +136,13 @@ impl Comparison<'_> {
             });
         }
         for (line, literal) in &self.rust.literals {
-            self.tally.count(stands(literal) || is_left_out(files, literal), || {
-                format!(
-                    "{rust}: {literal} in line {line} is not in {}",
-                    files.join(", ")
-                )
-            });
+            self.tally
+                .count(stands(literal) || is_left_out(files, literal), || {
+                    format!(
+                        "{rust}: {literal} in line {line} is not in {}",
+                        files.join(", ")
+                    )
+                });
         }
     }
 
@@ -192,7 +193,12 @@ impl Comparison<'_> {
         for (file, code) in files {
             for constant in &code.constants {
                 let numbers: Vec<Value> = constant.patterns();
-                let wanted = places.of(&constant.name, &numbers, &names);
+                // one number under the name of such a list is a literal of the port's own
+                let is_literal = !constant.is_list && BY_VALUE.contains(&constant.name.as_str());
+                let wanted = match is_literal {
+                    true => None,
+                    false => places.of(&constant.name, &numbers, &names),
+                };
                 let is_same = wanted
                     .as_ref()
                     .map_or(true, |w| w.len() == constant.values.len());
