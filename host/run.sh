@@ -1,5 +1,5 @@
 #!/bin/sh
-# run.sh [WRAPPER ...]: proves and builds the library of C entries, builds the host and the tests against it, and runs them, under WRAPPER
+# run.sh [WRAPPER ...]: proves and builds the library of C entries, which has to need no name from outside, builds the host and the tests against it, and runs them, under WRAPPER
 # where one is named (valgrind). Then tries what bin/install installs. host/compiler.sh says what it is compiled and run by.
 # shellcheck disable=SC2086 # cc, cxx, run and flags are words
 set -eu
@@ -10,6 +10,8 @@ run="$* $run"
 
 (cd crates/entries_c && rt lib) </dev/null >&2
 library=crates/entries_c/out/libentries_c.a
+outside=$(nm -u "$library" | sed -n 's/^ *U //p' | tr '\n' ' ')
+[ -z "$outside" ] || die "the library asks a host for $outside, and it has to ask for nothing"
 out=target/host
 mkdir -p "$out"
 awk -f host/kinds.awk kinds.txt >"$out/kinds.h"

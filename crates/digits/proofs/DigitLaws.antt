@@ -2,14 +2,13 @@
 use mathlib.Core.Path.{◌≡◌, refl, sym, ap, ◌∙◌}
 use mathlib.Core.List.{List, [], ◌∷◌, ◌++◌}
 use Prim.Native.Nat.{ℕ, zero, suc, ◌+◌, ◌-◌, ◌*◌, ◌^◌, ◌/◌, ◌%◌, ◌≤◌, ◌<◌}
-use native.Mathlib.Nat.{zero-add, suc-add, zero-mul, suc-mul, one-mul, pow-zero, pow-suc, one-le-pow, mod-eq_of_lt, div-div-eq-div-mul, add-mul-mod_self_left}
+use native.Mathlib.Nat.{zero-add, suc-add, zero-mul, suc-mul, one-mul, pow-zero, pow-suc, pow-le-pow_right, one-le-pow, mod-eq_of_lt, div-div-eq-div-mul, add-mul-mod_self_left}
 use native.Mathlib.Omega.{arith}
 use lib.Arith.{mod-mul}
 use lib.Dec.{lit<}
 use lib.Pow.{pow-add, shl_exact}
 use lib.ListN.{length, take, drop, get_or}
 use lib.Seq.{drop-drop, get_or-drop}
-use Rattle.std.specs.Prelude.{replicate}
 use Rattle.std.specs.Int.{w64, to_le_bytes, from_le_bytes}
 use Rattle.digits.specs.Digits.{digits, word}
 
@@ -30,6 +29,9 @@ digits_take zero w x h = refl
 digits_take (suc n) zero x h = absurd (omega arith)
 digits_take (suc n) (suc w) x h = ap (λ (l : List ℕ). x % 256 ∷ l) (digits_take n w (x / 256) (omega arith))
 
+pub byte_more : (n x b : ℕ) → x < 256 ^ n → b < 256 → x * 256 + b < 256 ^ suc n
+byte_more n x b h l = rw pow-suc (omega arith)
+
 -- a power of a power
 pub pow_mul : (a k n : ℕ) → a ^ (n * k) ≡ (a ^ k) ^ n
 pow_mul a k zero = rw (zero-mul k, pow-zero a, pow-zero (a ^ k))
@@ -39,6 +41,12 @@ pow_mul a k (suc n) = rw (suc-mul, pow-add, pow_mul a k n) (sym (pow-suc (a ^ k)
 pub shifted : (n : ℕ) → n < 8 → 1 * 2 ^ (n * 8) % 2 ^ 64 ≡ 256 ^ n
 shifted n h = shl_exact 1 (n * 8) 64 (lit< tt) (omega arith) ∙ one-mul (2 ^ (n * 8)) ∙ pow_mul 2 8 n
 
+pub below_64 : (n x : ℕ) → n ≤ 8 → x < 256 ^ n → x < 18446744073709551616
+below_64 n x h l =
+    let p : 256 ^ n ≤ 256 ^ 8 = pow-le-pow_right (omega arith) h in
+    let q : 256 ^ n ≤ 18446744073709551616 = p in
+    omega arith
+
 -- a byte that is not there counts as 0
 pub word_short : (w : ℕ) (s : List ℕ) → length s ≤ w → word (length s) s ≡ word w s
 unfolding word
@@ -46,13 +54,6 @@ word_short zero [] h = refl
 word_short (suc w) [] h = ap (λ (n : ℕ). 0 + 256 * n) (word_short w [] (omega arith))
 word_short zero (x ∷ s) h = absurd (omega arith)
 word_short (suc w) (x ∷ s) h = ap (λ (n : ℕ). x + 256 * n) (word_short w s (omega arith))
-
-pub word_zeros : (w n : ℕ) (s : List ℕ) → word w (s ++ replicate n 0) ≡ word w s
-unfolding word
-word_zeros zero n s = refl
-word_zeros (suc w) zero [] = refl
-word_zeros (suc w) (suc n) [] = ap (λ (k : ℕ). 0 + 256 * k) (word_zeros w n [])
-word_zeros (suc w) n (x ∷ s) = ap (λ (k : ℕ). x + 256 * k) (word_zeros w n s)
 
 -- of no bytes all are 0
 pub word_none : (w n : ℕ) → word w (take n []) ≡ 0

@@ -6,15 +6,18 @@ ghost use Rattle.std.specs.Prelude.{◌≡◌, ◌<◌, length, take, drop};
 ghost use Rattle.std.proofs.lemmas.List.Edits.{sets};
 ghost use Rattle.digits.specs.Digits.{word, digits};
 
-// The number that fewer than eight bytes make. Kept apart, so that where there are eight nothing but their load is left.
+// The number that fewer than eight bytes make. Kept apart, so that where there are eight nothing but their load is left; and byte by byte, since
+// copied into an array they would take the C library's memcpy, which a host of the C entries need not have.
 #[inline(never)]
 fn fewer(s: &[u8]) -> u64
     requires { length s.now < 8 }
     ensures { result ≡ word 8 s.now }
 {
-    let mut bytes = [0; 8];
-    bytes[..s.len()].copy_from_slice(s);
-    u64::from_le_bytes(bytes)
+    let mut x = 0;
+    for byte in s.iter().rev() {
+        x = x * 256 + *byte as u64;
+    }
+    x
 }
 
 // The number that the first eight bytes make.
