@@ -1,6 +1,7 @@
 #!/bin/sh
-# run.sh [WRAPPER ...]: proves and builds the library of C entries, which has to need no name from outside, builds the host and the tests against it, and runs them, under WRAPPER
-# where one is named (valgrind). Then tries what bin/install installs. host/compiler.sh says what it is compiled and run by.
+# run.sh [WRAPPER ...]: proves and builds the library of C entries, which has to need no name from outside, builds the host and the tests
+# against it, and runs them, under WRAPPER where one is named (valgrind). Then tries what bin/install installs. host/compiler.sh says what it is
+# compiled and run by.
 # shellcheck disable=SC2086 # cc, cxx, run and flags are words
 set -eu
 cd "$(dirname "$0")/.."

@@ -1,7 +1,7 @@
 -- The laws of erf and erfc, in reading order.
 -- ErfCode: what each return gives, over the plan
 pub mod ErfCode
--- SharedLaws: that a y which reaches farther serves for less
+-- SharedLaws: how y is made, case by case; that a y which reaches farther serves for less
 pub mod SharedLaws
 -- SignBit: f32 holds the sign bit as a number
 pub mod SignBit

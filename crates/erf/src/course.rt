@@ -107,6 +107,7 @@ impl<R: Width> Constants<R> {
     }
 
     // y as far as erf needs it. Elsewhere nobody looks at it, and x serves.
+    #[tactic(auto, using(crate::proofs::SharedLaws::none_below, crate::proofs::SharedLaws::by_small, crate::proofs::SharedLaws::by_tail, crate::proofs::SharedLaws::none_above))]
     fn y_of_erf(&self, ix: u32, x: R) -> R
         ensures { let p = plan_of R.format R.word R.lost R.exp R.float self.now in Made p p.at2^-28 p.at6 ix (R.float x) (R.float result) }
     {
@@ -123,6 +124,7 @@ impl<R: Width> Constants<R> {
     }
 
     // y as far as erfc needs it, which is farther both ways.
+    #[tactic(auto, using(crate::proofs::SharedLaws::none_below, crate::proofs::SharedLaws::by_small, crate::proofs::SharedLaws::by_tail, crate::proofs::SharedLaws::none_above))]
     pub(crate) fn y_of_erfc(&self, ix: u32, x: R) -> R
         ensures { let p = plan_of R.format R.word R.lost R.exp R.float self.now in Made p p.at2^-56 p.at28 ix (R.float x) (R.float result) }
     {
