@@ -22,7 +22,7 @@ use Rattle.feed.specs.Fields.{fields}
 use Rattle.feed.specs.Post.{Pushed}
 use Rattle.feed.specs.declared.Fed.{Fed}
 
-module _ (T : List Row) (p a b : List ℕ) (t : Report) (did : Did (run T p (length a)) t 0 a b) where
+module _ (T : List Row) (p a b : List ℕ) (t : Report Code) (did : Did (run T p (length a)) t 0 a b) where
   abbrev o : Out
   o = run T p (length a)
 

@@ -9,6 +9,7 @@ use Rattle.digits.proofs.StoreLaws.{sets_append}
 use Rattle.records.specs.Tally.{nothing, ◌⊞◌}
 use Rattle.records.specs.Run.{Out, ahead, run_by}
 use Rattle.records.specs.Did.{Did}
+use Rattle.records.specs.declared.Code.{Code}
 use Rattle.records.specs.declared.Report.{Report}
 use Rattle.records.specs.declared.Tally.{Tally}
 use Rattle.records.proofs.PartLaws.{with_rest, did_rest}
@@ -42,7 +43,7 @@ pub record Going (S : List ℕ → ℕ → Out) (s first a : List ℕ) (t : Tall
   pub so_far : SoFar (run_by S s (length first)) (onward_by S s (length a) t) t first a
 
 -- one step over what is left to read and the rest of the buffer, of which it leaves b
-module _ (S : List ℕ → ℕ → Out) (law : Lawful S) (s first a b : List ℕ) (t : Tally) (r : Report) (g : Going S s first a t)
+module _ (S : List ℕ → ℕ → Out) (law : Lawful S) (s first a b : List ℕ) (t : Tally) (r : Report Code) (g : Going S s first a t)
     (rests : Did (S (take (length s - t.read) (drop t.read s)) (length (take (length a - t.written) (drop t.written a)))) r 0 (take (length a - t.written) (drop t.written a)) b) where
   -- the buffer behind the step
   abbrev pub after : List ℕ

@@ -8,6 +8,7 @@ use lib.Seq.{sets}
 use Rattle.std.proofs.lemmas.List.{take_rest}
 use Rattle.records.specs.Run.{Out}
 use Rattle.records.specs.Did.{Did}
+use Rattle.records.specs.declared.Code.{Code}
 use Rattle.records.specs.declared.Report.{Report}
 
 sets_cons : (y : ℕ) (l x : List ℕ) (i : ℕ) → sets (y ∷ l) (suc i) x ≡ y ∷ sets l i x
@@ -24,7 +25,7 @@ abbrev pub with_rest : ℕ → List ℕ → List ℕ → List ℕ
 with_rest w a b = take w a ++ (b ++ drop (length a - w) (drop w a))
 
 -- a step over the rests, told of the whole
-pub did_rest : (S : List ℕ → ℕ → Out) (s a b : List ℕ) (n w : ℕ) (r : Report) → w ≤ length a →
+pub did_rest : (S : List ℕ → ℕ → Out) (s a b : List ℕ) (n w : ℕ) (r : Report Code) → w ≤ length a →
     Did (S (take (length s - n) (drop n s)) (length (take (length a - w) (drop w a)))) r 0 (take (length a - w) (drop w a)) b →
     Did (S (drop n s) (length a - w)) r w a (with_rest w a b)
 did_rest S s a b n w r h d =

@@ -48,15 +48,15 @@ module _ (T : List Row) (k : ℕ) (s : List ℕ) (room w : ℕ) (ew : w ≡ (row
     pub at_whole : length x ≤ room → one T (k ∷ s) room ≡ took w x
     at_whole f = at_front ∙ ap (choose w (length s) room) (sym ex) ∙ choose_whole w (length s) room x z l f
 
-pub did_stop : (o : Out) (r : Report) (c : Code) (out : ℕ) (a : List ℕ) → r ≡ record { code = c; tally = nothing } → o ≡ stop c → Did o r out a a
+pub did_stop : (o : Out) (r : Report Code) (c : Code) (out : ℕ) (a : List ℕ) → r ≡ record { code = c; tally = nothing } → o ≡ stop c → Did o r out a a
 did_stop o r c out a er eo = rw (er, eo) (record { code = refl; tally = refl; buffer = refl })
 
-pub did_took : (o : Out) (r : Report) (w n out : ℕ) (x a b : List ℕ) → r ≡ record { code = Done; tally = record { records = 1; read = 1 + w; written = n } } →
+pub did_took : (o : Out) (r : Report Code) (w n out : ℕ) (x a b : List ℕ) → r ≡ record { code = Done; tally = record { records = 1; read = 1 + w; written = n } } →
     o ≡ took w x → n ≡ length x → b ≡ sets a out x → Did o r out a b
 did_took o r w n out x a b er eo l f = rw (er, eo, l) (record { code = refl; tally = refl; buffer = f })
 
 -- two reports of one thing done are the same
-pub did_same : (o : Out) (r r' : Report) (p : ℕ) (a b b' : List ℕ) → Did o r p a b → Did o r' p a b' → (r ≡ r') × (b ≡ b')
+pub did_same : (o : Out) (r r' : Report Code) (p : ℕ) (a b b' : List ℕ) → Did o r p a b → Did o r' p a b' → (r ≡ r') × (b ≡ b')
 did_same o r r' p a b b' d d' = (
   λ i. record {
     code = (d.code ∙ sym d'.code) i;

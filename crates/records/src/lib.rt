@@ -74,15 +74,15 @@ impl From<Code> for u8 {
     }
 }
 
-// Why a run stopped, and its counts.
+// Why a run stopped, and its counts. The reason is a `Code`, or whatever else a caller tells it by, such as its number.
 #[derive(Clone, Copy)]
-pub struct Report {
-    pub code: Code,
+pub struct Report<C = Code> {
+    pub code: C,
     pub tally: Tally,
 }
 
 // Nothing done, for the reason of a code.
-pub fn stopped(code: Code) -> Report
+pub fn stopped<C>(code: C) -> Report<C>
     ensures { result ≡ record { code = code; tally = nothing } }
 {
     Report {

@@ -5,6 +5,7 @@ use Prim.Native.Nat.{ℕ}
 use contract.Lifetimes.{Lfts}
 use denote.Ref.{Bor}
 use denote.MutBor.{MutBor}
+use Rattle.records.specs.declared.Code.{Code}
 use Rattle.records.specs.declared.Report.{Report}
 use Rattle.records.proofs.StepLaws.{did_same}
 use Rattle.stream.proofs.batch.Reads as batch
@@ -12,7 +13,7 @@ use Rattle.stream.proofs.batch_rest.Reads as rest
 use Rattle.stream.proofs.batch_front.Reads as front
 
 -- the code, the counts, and every byte of the answer buffer
-pub batch_determined : (κs : Lfts 2) (a : _) (r r' : Report) (s s' : _) → batch.Post κs a r s → batch.Post κs a r' s' →
+pub batch_determined : (κs : Lfts 2) (a : _) (r r' : Report Code) (s s' : _) → batch.Post κs a r s → batch.Post κs a r' s' →
     (r ≡ r') × (s.1.0.now ≡ s'.1.0.now)
 batch_determined κs a r r' s s' p q = did_same _ r r' 0 a.1.0.now s.1.0.now s'.1.0.now p q
 

@@ -9,6 +9,7 @@ use Rattle.records.specs.declared.Code.TheVariants.{Done, Unknown, Full}
 use Rattle.records.specs.Row.{row_in}
 use Rattle.records.specs.Run.{run}
 use Rattle.records.specs.Did.{Did}
+use Rattle.records.specs.declared.Code.{Code}
 use Rattle.records.specs.declared.Report.{Report}
 use Rattle.replies.specs.Table.{table}
 use Rattle.replies.proofs.TableLaws.{row_width}
@@ -23,7 +24,7 @@ use Rattle.feed.proofs.fresh.Goals as goal
 use Rattle.feed.proofs.fresh.Goals.{in-Unknown, in-Cut, in-Full, in-Done}
 
 -- the batch, from where its code was looked at
-module _ (piece answers after : List ℕ) (t : Report) (did : Did (run table piece (length answers)) t 0 answers after) where
+module _ (piece answers after : List ℕ) (t : Report Code) (did : Did (run table piece (length answers)) t 0 answers after) where
   abbrev left : List ℕ
   left = drop t.tally.read piece
 

@@ -11,6 +11,7 @@ use Rattle.records.specs.Codes.{number_s}
 use Rattle.records.specs.Row.{row_in}
 use Rattle.records.specs.Run.{Out, run}
 use Rattle.records.specs.Did.{Did}
+use Rattle.records.specs.declared.Code.{Code}
 use Rattle.records.specs.declared.Report.{Report}
 use Rattle.records.specs.declared.Tally.{Tally}
 use Rattle.records.proofs.RunLaws.{run_within}
@@ -28,7 +29,7 @@ narrow : (x w : ℕ) → w ≡ (row_in table (x % 256)).width → w ≤ 8
 narrow x w e = omega (arith, e, width_small (x % 256))
 
 -- the batch over a record: how many bytes it wrote
-module _ (record_s answers after : List ℕ) (t : Report) (did : Did (run table record_s (length answers)) t 0 answers after) where
+module _ (record_s answers after : List ℕ) (t : Report Code) (did : Did (run table record_s (length answers)) t 0 answers after) where
   written_is : t.tally.written ≡ (run table record_s (length answers)).tally.written
   written_is = ap (λ (y : Tally). y.written) did.tally
 

@@ -12,6 +12,7 @@ use Rattle.kinds.specs.Kinds.{shape_of}
 use Rattle.kinds.proofs.ShapeLaws.{body_small}
 use Rattle.records.specs.Did.{Did}
 use Rattle.records.specs.declared.Code.TheVariants.{Done, Unknown, Full}
+use Rattle.records.specs.declared.Code.{Code}
 use Rattle.records.specs.declared.Report.{Report}
 use Rattle.records.proofs.StepLaws.{did_stop, did_took}
 use Rattle.text.specs.Names.{names}
@@ -29,13 +30,13 @@ says : (s : List ℕ) (end : ℕ) (a : Asked) → end ≡ length (first_line s) 
 says s end a n e = ap (asked names) (sym (ap (λ (k : ℕ). take k s) n ∙ first_take s)) ∙ sym e
 
 -- where it asks for something, and is taken, where there is room and its request was written
-taken : (s : List ℕ) (room kind bits : ℕ) → 0 < length s → asked names (first_line s) ≡ Ask kind bits → (r : Report) (read n : ℕ) (requests after : List ℕ) →
+taken : (s : List ℕ) (room kind bits : ℕ) → 0 < length s → asked names (first_line s) ≡ Ask kind bits → (r : Report Code) (read n : ℕ) (requests after : List ℕ) →
     n ≡ 1 + (shape_of kind).body → n ≤ room → r ≡ record { code = Done; tally = record { records = 1; read = read; written = n } } → read ≡ 1 + more s →
     after ≡ sets requests 0 (record_of kind bits) → Did (to_request names s room) r 0 requests after
 taken s room kind bits here asks r read n requests after en fits er el put =
     let l = length_record kind bits in
     did_took _ r (more s) n 0 (record_of kind bits) requests after
-    (er ∙ ap {B = Report} (λ (k : ℕ). record { code = Done; tally = record { records = 1; read = k; written = n } }) el)
+    (er ∙ ap {B = Report Code} (λ (k : ℕ). record { code = Done; tally = record { records = 1; read = k; written = n } }) el)
     (request_at names s room (more s) (Ask kind bits) here refl asks ∙ as_whole (more s) room kind bits (omega arith)) (omega arith) put
 
 pub returns-then-is_empty : goal.returns-then-is_empty
