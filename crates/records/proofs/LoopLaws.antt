@@ -1,19 +1,19 @@
 -- What a loop that follows a run by a step keeps: what is left to do, put behind what is done, is what is to be done in all. Assumes nothing.
-use mathlib.Core.Path.{◌≡◌, refl, sym, ap, ◌∙◌, subst}
+use mathlib.Core.Path.{◌≡◌, sym, ap, ◌∙◌, subst}
 use mathlib.Core.List.{List}
-use Prim.Native.Nat.{ℕ, ◌+◌, ◌-◌, ◌≤◌, ◌<◌}
+use Prim.Native.Nat.{ℕ, ◌+◌, ◌-◌, ◌≤◌, ◌<◌, ◌^◌}
 use native.Mathlib.Omega.{arith}
 use lib.ListN.{length, take, drop, length-drop}
 use lib.Seq.{sets, sets-eq, length-sets, drop-drop, take_at}
 use Rattle.digits.proofs.StoreLaws.{sets_append}
-use Rattle.records.specs.Tally.{nothing, ◌⊞◌}
+use Rattle.records.specs.Tally.{◌⊞◌, wrapped}
 use Rattle.records.specs.Run.{Out, ahead, run_by}
 use Rattle.records.specs.Did.{Did}
 use Rattle.records.specs.declared.Code.{Code}
 use Rattle.records.specs.declared.Report.{Report}
 use Rattle.records.specs.declared.Tally.{Tally}
 use Rattle.records.proofs.PartLaws.{with_rest, did_rest}
-use Rattle.records.proofs.TallyLaws.{⊞_assoc, nothing_⊞, ⊞_nothing}
+use Rattle.records.proofs.TallyLaws.{⊞_assoc, ⊞_nothing, wrapped_fits}
 use Rattle.records.specs.Lawful.{Lawful}
 use Rattle.records.proofs.RunLaws.{by_stop, by_go, onward_by, by_within}
 
@@ -96,6 +96,12 @@ module _ (S : List ℕ → ℕ → Out) (law : Lawful S) (s first a b : List ℕ
 
     pub going_on : Going S s first after (t ⊞ r.tally)
     going_on = subst (λ (x : Tally). Going S s first after (t ⊞ x)) (sym d.tally) more
+
+    -- and no count wraps
+    pub going_fits : length s < 2 ^ 64 → length first < 2 ^ 64 → wrapped (t ⊞ r.tally) ≡ t ⊞ r.tally
+    going_fits h k =
+        let on = going_on in
+        wrapped_fits (t ⊞ r.tally) (omega (arith, on.count, on.inside)) (omega (arith, on.inside)) (omega (arith, on.within, on.same))
 
 -- the front that was written, and the tail that was not read
 module _ (S : List ℕ → ℕ → Out) (law : Lawful S) (s first b : List ℕ) (n : ℕ) (counts : n ≡ (run_by S s (length first)).tally.written) (holds : b ≡ sets first 0 (run_by S s (length first)).bytes) where

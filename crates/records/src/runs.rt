@@ -1,6 +1,6 @@
 // A run: items taken from the front of some bytes, one after another, by any step, until the step stops.
-ghost use Rattle.std.specs.Prelude.{◌≡◌, ℕ, List, ◌+◌, ◌<◌, ◌^◌, length};
-ghost use Rattle.records.specs.Tally.{◌⊞◌};
+ghost use Rattle.std.specs.Prelude.{◌≡◌, ℕ, List, length};
+ghost use Rattle.records.specs.Tally.{wrapped, ◌⊞◌};
 ghost use Rattle.records.specs.Run.{Out, run_by};
 ghost use Rattle.records.specs.Lawful.{Lawful};
 ghost use Rattle.records.specs.Did.{Did};
@@ -8,19 +8,19 @@ ghost use Rattle.records.specs.Did.{Did};
 use crate::{Report, Tally};
 use std::ops::Add;
 
-// The counts of one run and then of another.
+// The counts of one run and then of another, each modulo 2 ^ 64. Of two parts of one run no count wraps.
 impl Add for Tally {
     type Output = Tally;
 
-    ghost can_add = { λ a b. (a.records + b.records < 2 ^ 64) × ((a.read + b.read < 2 ^ 64) × (a.written + b.written < 2 ^ 64)) };
+    ghost can_add = { λ a b. Unit };
 
-    ghost add_gives = { λ a b both. both ≡ a ⊞ b };
+    ghost add_gives = { λ a b both. both ≡ wrapped (a ⊞ b) };
 
     fn add(self, later: Tally) -> Tally {
         Tally {
-            records: self.records + later.records,
-            read: self.read + later.read,
-            written: self.written + later.written,
+            records: self.records.wrapping_add(later.records),
+            read: self.read.wrapping_add(later.read),
+            written: self.written.wrapping_add(later.written),
         }
     }
 }
