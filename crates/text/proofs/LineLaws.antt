@@ -266,3 +266,8 @@ bad_or_ask N s = by-case (asked N s) refl
 -- a line over 25 bytes is bad
 pub long_bad : (s : List ℕ) → 25 < length s → asked names s ≡ Bad
 long_bad s h = ⊎_elim (λ e. e) (λ g. absurd (omega (arith, (good_length s g.0 g.1.0 g.1.1).1))) (bad_or_ask names s)
+
+-- and so is one of none
+pub empty_bad : asked names [] ≡ Bad
+unfolding asked asked_as begins names
+empty_bad = refl

@@ -51,10 +51,13 @@ fn ask_as(row: Row, line: &[u8]) -> Option<Request>
     ask_kind(row.kind, digits)
 }
 
-// What a line asks for, by the table of names; nothing where it is bad.
+// What a line asks for, by the table of names; nothing where it is bad. An empty one is, and need not go through the table.
 pub fn ask(line: &[u8]) -> Option<Request>
     ensures { result ≡ asked names line.now }
 {
+    if line.is_empty() {
+        return None;
+    }
     for row in rows() {
         if let Some(request) = ask_as(*row, line) {
             return Some(request);
