@@ -2,7 +2,7 @@
 use mathlib.Core.Path.{◌≡◌, refl}
 use Rattle.std.specs.Prelude.{None, Some}
 use lib.Ieee.{binary32, binary64, nan_bits}
-use Rattle.distance.specs.Distance.{place_s, distance_s}
+use Rattle.distance.specs.Distance.{place_s, distance_s, code_of, steps_of}
 
 -- the least number above zero and the least below it
 pub across_zero : (distance_s binary64 1 0x8000000000000001 ≡ Some 2) × (distance_s binary32 1 0x80000001 ≡ Some 2)
@@ -29,8 +29,8 @@ pub end_to_end : (distance_s binary64 0xFFF0000000000000 0x7FF0000000000000 ≡ 
 unfolding distance_s place_s nan_bits
 end_to_end = (refl, refl)
 
--- the NaN next to an infinity has no distance to it
-pub of_a_nan : (distance_s binary64 0x7FF0000000000001 0x7FF0000000000000 ≡ None)
-    × (distance_s binary32 0 0xFF800001 ≡ None)
+-- The NaN next to an infinity has no distance to it: in C the code is 4, and the distance 0.
+pub of_a_nan : let d = distance_s binary64 0x7FF0000000000001 0x7FF0000000000000 in let e = distance_s binary32 0 0xFF800001 in
+    ((d ≡ None) × (code_of d ≡ 4) × (steps_of d ≡ 0)) × ((e ≡ None) × (code_of e ≡ 4) × (steps_of e ≡ 0))
 unfolding distance_s place_s nan_bits
-of_a_nan = (refl, refl)
+of_a_nan = ((refl, refl, refl), (refl, refl, refl))
