@@ -12,19 +12,20 @@ ghost use Rattle.replies.specs.Table.{table};
 ghost use Rattle.text.specs.Typing.{KEPT, typing};
 
 use decide::{Next, after, at_end};
+use port::read;
 use records::Code;
 use relay::answer;
-use session::port::{large_buffer, read};
+use session::port::large_buffer;
 use session::turns::Turns;
 use std::io::{Stdin, Stdout};
 
 // One turn: reads once behind the `have` bytes that are there, answers the lines, and says what comes next. Its code is 0: no line stops the
-// program. A read into no room would look like the end of the input.
-fn pass(mut input: Stdin, output: Stdout, buf: &mut [u8], have: usize, replies: &mut [u8]) -> Next
+// program.
+fn pass(input: Stdin, output: Stdout, buf: &mut [u8], have: usize, replies: &mut [u8]) -> Next
     requires { (have < length buf.old) × ((4 * length buf.old ≤ length replies.old) × (length replies.old ≤ 65536)) }
     ensures { Passed (typing table) (length buf.old) (take have buf.old) result buf.new }
 {
-    let got = read(&mut input, &mut buf[have..]);
+    let got = read(input, &mut buf[have..]);
     let there = have + got.unwrap_or(0);
     let t = answer(output, buf, there, at_end(got), replies);
     after(got, Code::Done.into(), t.kept, t.sent)

@@ -10,19 +10,18 @@ ghost use Rattle.session.specs.Post.{Passed, Served};
 ghost use Rattle.serve.specs.Session.{answering};
 
 use decide::{Next, after, closing, end};
-use port::close;
+use port::{close, read};
 use relay::answer;
-use session::port::{large_buffer, read};
+use session::port::large_buffer;
 use session::turns::Turns;
 use std::io::{Stdin, Stdout};
 
-// One turn: reads once behind the `have` bytes that are there, answers them all, and says what comes next. A read into no room would look like
-// the end of the input.
-fn pass(mut input: Stdin, output: Stdout, buf: &mut [u8], have: usize, answers: &mut [u8]) -> Next
+// One turn: reads once behind the `have` bytes that are there, answers them all, and says what comes next.
+fn pass(input: Stdin, output: Stdout, buf: &mut [u8], have: usize, answers: &mut [u8]) -> Next
     requires { have < length buf.old }
     ensures { Passed (answering (length answers.old)) (length buf.old) (take have buf.old) result buf.new }
 {
-    let got = read(&mut input, &mut buf[have..]);
+    let got = read(input, &mut buf[have..]);
     let there = have + got.unwrap_or(0);
     let t = answer(output, buf, there, answers);
     after(got, t.code.into(), t.kept, t.sent)
