@@ -20,7 +20,7 @@ pub struct Request {
     pub bits: u64,
 }
 
-// Writes `s` from `at` on, as much of it as there is room for.
+// Writes `s` from `at` on, as much of it as there is room for. Where that is all of it, a text of known length takes a store or two and no call.
 #[tactic(auto, using(digits::proofs::StoreLaws::sets_out, digits::proofs::StoreLaws::sets_part))]
 pub fn put_all(out: &mut [u8], at: usize, s: &[u8])
     ensures { out.new ≡ sets out.old at s.now }
@@ -29,6 +29,10 @@ pub fn put_all(out: &mut [u8], at: usize, s: &[u8])
         return;
     }
     let n = s.len().min(out.len() - at);
+    if n == s.len() {
+        out[at..at + n].copy_from_slice(s);
+        return;
+    }
     out[at..at + n].copy_from_slice(&s[..n]);
 }
 
