@@ -1,6 +1,6 @@
 # compiler.sh, read by the other scripts of this folder (. host/compiler.sh): how to compile and run for x86-64, for which the proved
-# library is. Sets cc, cxx and run, each a command of words: on x86-64 the compilers of CC and CXX, and nothing before a program; elsewhere
-# a cross compiler, and Debian's emulator. What is missing is installed by apt-get.
+# library is. Sets cc, cxx, nm and run, each a command of words: on x86-64 the compilers of CC and CXX, and nothing before a program; elsewhere
+# a cross compiler with its nm, and Debian's emulator. What is missing is installed by apt-get.
 
 die() { printf '%s: %s\n' "$0" "$*" >&2; exit 2; }
 
@@ -40,12 +40,12 @@ needs_compiler() { # LANGUAGE COMMAND PACKAGE..
 
 case $(uname -m) in
 x86_64)
-    cc=${CC:-cc} cxx=${CXX:-c++} run=
+    cc=${CC:-cc} cxx=${CXX:-c++} nm=nm run=
     needs_compiler c "$cc" gcc libc6-dev
     needs_compiler c++ "$cxx" g++
     ;;
 *)
-    cc='x86_64-linux-gnu-gcc -static' cxx=x86_64-linux-gnu-g++
+    cc='x86_64-linux-gnu-gcc -static' cxx=x86_64-linux-gnu-g++ nm=x86_64-linux-gnu-nm
     needs_compiler c "$cc" gcc-x86-64-linux-gnu libc6-dev-amd64-cross
     needs_compiler c++ "$cxx" g++-x86-64-linux-gnu
     run=qemu-x86_64

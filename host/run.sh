@@ -11,7 +11,8 @@ run="$* $run"
 
 (cd crates/entries_c && rt lib) </dev/null >&2
 library=crates/entries_c/out/libentries_c.a
-outside=$(nm -u "$library" | sed -n 's/^ *U //p' | tr '\n' ' ')
+$nm -u "$library" >"$work/outside" || die "nm does not read the library"
+outside=$(sed -n 's/^ *[Uvw] //p' "$work/outside" | tr '\n' ' ')
 [ -z "$outside" ] || die "the library asks a host for $outside, and it has to ask for nothing"
 out=target/host
 mkdir -p "$out"

@@ -1,2 +1,3 @@
--- Laws of the decisions.
+-- Laws of the decisions (DecideLaws), and what the tests of the code say (TestLaws).
 pub mod DecideLaws
+pub mod TestLaws
